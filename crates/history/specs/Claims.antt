@@ -1,0 +1,79 @@
+-- What is claimed of the definitions, each as a type that a theorem inhabits.
+use Prim.Native.Nat.{ℕ, zero, suc, _+_, _-_, _≤_, _<_}
+use mathlib.Core.Path.{_≡_}
+use mathlib.Core.Bool.{Bool, true, false, cond, _&&_, _||_, not}
+use mathlib.Core.List.{List, [], _∷_, _++_}
+use lib.Dec.{eqb, leb, ltb}
+use Rattle.pair.specs.Rank.{rank, Words}
+use Rattle.card.specs.Layout.{placeCount, oldLength, newLength, blockSize, boundary, oldPlaces, newPlaces, live, formatNumber}
+use Rattle.card.specs.Sound.{judged}
+use Rattle.batch.specs.Batch.{Update, updates, anyUpdate, applied, batchNumber}
+use Rattle.update.specs.Step.{Step, remains, stepNumber, step}
+use Rattle.update.specs.Pass.{stepLimit, finishesWithin, refusedWithin}
+use Rattle.lookup.specs.Found.{questionNumber, blocksRead, holders}
+use Rattle.history.specs.History.{Event, stepped, cut, looked, restarted, formats, after, AllOfWords}
+
+-- a pass left uncut and unrefused, with its batch kept, finishes within the step limit
+unfoldable pub PassFinishes : Type 0
+PassFinishes =
+    (c b : List ℕ) → Words c → Words b → judged c ≡ 0 →
+    let n = stepLimit (blockSize c) (remains c b) in
+    refusedWithin n c b ≡ false → finishesWithin n c b ≡ true
+
+-- on the card c the event lends no batch but b, and is no accepted call of the formatter
+unfoldable pub Lends : List ℕ → List ℕ → Event → Type 0
+Lends c b (stepped x) = x ≡ b
+Lends c b (cut x ws l) = x ≡ b
+Lends c b (looked t a z answer) = Unit {0}
+Lends c b restarted = Unit {0}
+Lends c b (formats x n) = formatNumber c x n ≡ 0 → ⊥
+
+-- from the card c on, every event does
+unfoldable pub Keeps : List ℕ → List ℕ → List Event → Type 0
+Keeps c b [] = Unit {0}
+Keeps c b (e ∷ es) = Lends c b e × Keeps (after c e) b es
+
+-- the card that the events leave
+unfoldable pub ran : List ℕ → List Event → List ℕ
+ran c [] = c
+ran c (e ∷ es) = ran (after c e) es
+
+unfoldable pub freePlaces : List ℕ → ℕ
+freePlaces c = placeCount c - (oldLength c + newLength c)
+
+-- with no update at all, number 8 never occurs on a sound card
+unfoldable pub EmptyNeverFull : Type 0
+EmptyNeverFull = (c : List ℕ) → Words c → judged c ≡ 0 → stepNumber c [] ≡ 0
+
+-- with removals only, kept throughout, number 8 never occurs if two places were free at the first step
+unfoldable pub RemovalsNeverFull : Type 0
+RemovalsNeverFull =
+    (c b : List ℕ) (es : List Event) → Words c → Words b → AllOfWords es → judged c ≡ 0 → batchNumber b ≡ 0 →
+    anyUpdate (λ u. eqb (u .kind) 1) (updates b) ≡ false → 2 ≤ freePlaces c → Keeps c b es →
+    stepNumber (ran c es) b ≡ 0
+
+-- the event is a configuration write that finishes the pass, and it lands
+unfoldable pub finishing : List ℕ → Event → Bool
+finishing c (stepped b) = step c b .finished
+finishing c (cut b ws l) = step c b .finished && l
+finishing c (looked t a z answer) = false
+finishing c restarted = false
+finishing c (formats b n) = false
+
+-- a finishing write lands among the events
+unfoldable pub finished : List ℕ → List Event → Bool
+finished c [] = false
+finished c (e ∷ es) = finishing c e || finished (after c e) es
+
+-- one batch, begun with no pass open and kept: from the first landed finishing write onward the index is the old one with the batch applied
+unfoldable pub KeptBatch : Type 0
+KeptBatch =
+    (c b : List ℕ) (es : List Event) → Words c → Words b → AllOfWords es → judged c ≡ 0 → newLength c ≡ 0 → Keeps c b es →
+    finished c es ≡ true → live (ran c es) ≡ applied (updates b) (live c)
+
+-- the blocks read are at most two more than the blocks that hold a live posting in range
+unfoldable pub BlocksReadBound : Type 0
+BlocksReadBound =
+    (c : List ℕ) (t a z : ℕ) → questionNumber c t a z ≡ 0 →
+    blocksRead c t a z
+    ≤ holders c 0 (rank t a) (rank t z) (newPlaces c) + holders c (boundary c) (rank t a) (rank t z) (oldPlaces c) + 2

@@ -1,0 +1,100 @@
+-- Looking up a term in a range of positions.
+use Prim.Native.Nat.{ℕ, zero, suc, _+_, _*_, _-_}
+use mathlib.Core.Bool.{Bool, true, false, cond, _&&_, _||_, not}
+use mathlib.Core.List.{List, [], _∷_, _++_, map}
+use lib.ListN.{length, take, drop, getD}
+use lib.Seq.{sets}
+use lib.Dec.{ltb, leb, eqb}
+use Rattle.pair.specs.Rank.{rank, term, position}
+use Rattle.pair.specs.Rising.{above, within, any, firstOf}
+use Rattle.block.specs.Block.{pairs}
+use Rattle.card.specs.Layout.{boundary, entryWidth, placeAt, firstPair, place, oldPlaces, newPlaces, live}
+use Rattle.card.specs.Sound.{judged}
+
+-- the live positions of the term from a to z
+unfoldable pub found : List ℕ → ℕ → ℕ → ℕ → List ℕ
+found c t a z = map position (within (rank t a) (rank t z) (live c))
+
+-- how many of the places have a map pair of at most k
+unfoldable pub mappedTo : List ℕ → ℕ → List ℕ → ℕ
+mappedTo c k [] = 0
+mappedTo c k (i ∷ is) = cond (leb (firstPair c i) k) (suc (mappedTo c k is)) 0
+
+-- the blocks from the last whose map pair is at most (t, a), or else the first, up to the last whose map pair is at most (t, z)
+unfoldable pub span : List ℕ → ℕ → ℕ → ℕ → List ℕ → ℕ
+span c t a z is = mappedTo c (rank t z) is - (mappedTo c (rank t a) is - 1)
+
+unfoldable pub blocksRead : List ℕ → ℕ → ℕ → ℕ → ℕ
+blocksRead c t a z = span c t a z (newPlaces c) + span c t a z (oldPlaces c)
+
+-- how many of the places hold a live posting from a to z, those above k being live
+unfoldable pub holders : List ℕ → ℕ → ℕ → ℕ → List ℕ → ℕ
+holders c k a z [] = 0
+holders c k a z (i ∷ is) =
+    cond (any (λ x. ltb k x && leb a x && leb x z) (pairs (place c i))) (suc (holders c k a z is)) (holders c k a z is)
+
+unfoldable pub questionNumber : List ℕ → ℕ → ℕ → ℕ → ℕ
+questionNumber c t a z = firstOf ((not (eqb (judged c) 0), judged c) ∷ (eqb t 0 || eqb a 0 || ltb z a, 9) ∷ [])
+
+unfoldable pub lookupNumber : List ℕ → ℕ → ℕ → ℕ → List ℕ → ℕ
+lookupNumber c t a z answer =
+    firstOf
+    ((not (eqb (questionNumber c t a z) 0), questionNumber c t a z)
+    ∷ (ltb (length answer) (length (found c t a z)), 10)
+    ∷ [])
+
+pub record Lookup : Type 0 where
+  pub number : ℕ
+  pub count : ℕ
+  pub blocks : ℕ
+  pub answer : List ℕ
+
+unfoldable pub lookup : List ℕ → ℕ → ℕ → ℕ → List ℕ → Lookup
+lookup c t a z answer =
+    cond (eqb (lookupNumber c t a z answer) 0)
+    (record { number = 0; count = length (found c t a z); blocks = blocksRead c t a z; answer = sets answer 0 (found c t a z) })
+    (record { number = lookupNumber c t a z answer; count = 0; blocks = 0; answer = answer })
+
+-- the run view's contents: the wanted live positions of the first of the places that has any
+unfoldable pub runAt : List ℕ → ℕ → ℕ → ℕ → List ℕ → List ℕ → List ℕ
+runAt c k a z [] rest = rest
+runAt c k a z (i ∷ is) rest =
+    elim (above k (within a z (pairs (place c i)))) [ [] ↦ runAt c k a z is rest | x ∷ xs ↦ map position (x ∷ xs) ]
+
+unfoldable pub run : List ℕ → ℕ → ℕ → ℕ → List ℕ
+run c t a z =
+    cond (eqb (questionNumber c t a z) 0)
+    (runAt c 0 (rank t a) (rank t z) (newPlaces c) (runAt c (boundary c) (rank t a) (rank t z) (oldPlaces c) []))
+    []
+
+-- how many words stand before the position of the first pair that passes the test, in words read as by pairsFrom
+unfoldable pub wordsBefore : (ℕ → Bool) → List ℕ → ℕ → ℕ → ℕ
+wordsBefore f [] t n = 0
+wordsBefore f (p ∷ ws) t (suc n) = cond (f (rank t p)) 0 (suc (wordsBefore f ws t n))
+wordsBefore f (a ∷ []) t zero = 0
+wordsBefore f (a ∷ b ∷ []) t zero = 0
+wordsBefore f (a ∷ b ∷ p ∷ ws) t zero = cond (eqb a 0) 0 (suc (suc (wordsBefore f (p ∷ ws) a b)))
+
+-- where in the card the run view's part starts
+unfoldable pub runStartAt : List ℕ → ℕ → ℕ → ℕ → List ℕ → ℕ → ℕ
+runStartAt c k a z [] rest = rest
+runStartAt c k a z (i ∷ is) rest =
+    elim (above k (within a z (pairs (place c i)))) [
+      | [] ↦ runStartAt c k a z is rest
+      | x ∷ xs ↦ placeAt entryWidth c i + wordsBefore (λ y. ltb k y && leb a y && leb y z) (place c i) 0 0
+    ]
+
+unfoldable pub runStart : List ℕ → ℕ → ℕ → ℕ → ℕ
+runStart c t a z =
+    cond (eqb (questionNumber c t a z) 0)
+    (runStartAt c 0 (rank t a) (rank t z) (newPlaces c) (runStartAt c (boundary c) (rank t a) (rank t z) (oldPlaces c) 0))
+    0
+
+-- what the posting reader yields: a posting, or the end
+pub data Yielded : Type 0 where
+  posting : ℕ → Yielded
+  ended : Yielded
+
+-- the yield after n others: the found positions one after another, then the end for ever; refused, the end at once
+unfoldable pub yielded : List ℕ → ℕ → ℕ → ℕ → ℕ → Yielded
+yielded c t a z n = cond (eqb (questionNumber c t a z) 0) (getD (map posting (found c t a z)) n ended) ended
