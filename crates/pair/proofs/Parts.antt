@@ -29,6 +29,11 @@ pub atMost-append : (k : ℕ) (xs ys : List ℕ) → atMost k (xs ++ ys) ≡ atM
 unfolding atMost
 atMost-append k xs ys = keep-append (λ x. leb x k) xs ys
 
+-- a test before or after the part above k
+pub above-keep : (k : ℕ) (f : ℕ → Bool) (xs : List ℕ) → above k (keep f xs) ≡ keep f (above k xs)
+unfolding above
+above-keep k f xs = keep-swap (ltb k) f xs
+
 -- all of a list that rises from k or from above k is above k, and none of it is at most k
 pub above-all : (xs : List ℕ) (k j : ℕ) → k ≤ j → risingFrom j xs ≡ true → above k xs ≡ xs
 unfolding above
@@ -135,14 +140,6 @@ pub above-first : (x : ℕ) (xs : List ℕ) (k : ℕ) → risingFrom k (x ∷ xs
 unfolding above keep
 above-first x xs k r = rw (le-ltb x x (omega arith)) (above-all xs x x (omega arith) (rising-tail x xs k r))
 
--- where x is the first above k, the others above k are those above x
-pub above-next : (xs : List ℕ) (j k x : ℕ) (rest : List ℕ) → risingFrom j xs ≡ true → above k xs ≡ x ∷ rest → above x xs ≡ rest
-above-next xs j k x rest r e =
-    let s : risingFrom k (x ∷ rest) ≡ true = rw e at (rising-above xs j k r) in
-    let l : k < x = rising-head x rest k s in
-    let q : k ≤ x = omega arith in
-    sym (above-further k x xs q) ∙ rw e (above-first x rest k s)
-
 -- what is above k, and what is at most k
 pub Each-above : (k : ℕ) (xs : List ℕ) → Each (λ x. k < x) (above k xs)
 unfolding above
@@ -175,3 +172,14 @@ pub rising-joined : (j k : ℕ) (s t : List ℕ) → j ≤ k → risingFrom j s 
 rising-joined j k s t h r q =
     rising-join (atMost k s) (above k t) j (rising-atMost s j k r)
     (rising-weaker (above k t) (last j (atMost k s)) k (last-atMost j k s h) (rises-above k t q))
+
+-- where x is the first above k, the others above k are those above x
+pub rises-next : (xs : List ℕ) (k x : ℕ) (rest : List ℕ) → rises xs ≡ true → above k xs ≡ x ∷ rest → above x xs ≡ rest
+rises-next xs k x rest r e =
+    let s : risingFrom k (x ∷ rest) ≡ true = rw e at (rises-above k xs r) in
+    let l : k < x = rising-head x rest k s in
+    let q : k ≤ x = omega arith in
+    sym (above-further k x xs q) ∙ rw e (above-first x rest k s)
+
+pub above-next : (xs : List ℕ) (j k x : ℕ) (rest : List ℕ) → risingFrom j xs ≡ true → above k xs ≡ x ∷ rest → above x xs ≡ rest
+above-next xs j k x rest r e = rises-next xs k x rest (rises-from xs j r) e
