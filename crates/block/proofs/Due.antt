@@ -4,7 +4,7 @@ use native.Mathlib.Omega.{arith}
 use mathlib.Core.Path.{_≡_, refl, sym, _∙_, ap}
 use mathlib.Core.Bool.{Bool, true, false, cond, _&&_, not}
 use mathlib.Core.List.{List, [], _∷_, _++_}
-use lib.ListN.{length, take, drop, getD, length-append, length-take, length-drop, take-append-drop}
+use lib.ListN.{length, take, drop, getD, length-append, length-take, length-drop, take-append-drop, drop-of-length-le}
 use lib.Seq.{length-take-le, take-all, take-append-add}
 use lib.Dec.{ltb, leb, eqb}
 use borrow.Author.Tests.{ltb-true, ltb-false, lt-ltb, le-ltb, le-leb}
@@ -62,6 +62,10 @@ fitting-some b (k ∷ ks) h l = rw (le-leb (cost 0 k) b (go (eqb (term k) 0))) (
 pub due-some : (b : ℕ) (r : List ℕ) → 3 ≤ b → 0 < length r → 0 < length (due b r)
 due-some b r h l = rw (length-due b r) (fitting-some b r h l)
 
+pub goesOn-some : (b : ℕ) (r : List ℕ) → goesOn b r ≡ true → 0 < length r
+unfolding goesOn
+goesOn-some b r g = omega (arith, ltb-true (fitting b 0 r) (length r) g)
+
 -- pairs beyond the due ones
 pub goesOn-rest : (b : ℕ) (r : List ℕ) → goesOn b r ≡ true → 0 < length (drop (fitting b 0 r) r)
 unfolding goesOn
@@ -72,7 +76,11 @@ unfolding goesOn
 rest-goesOn b r l =
     lt-ltb (fitting b 0 r) (length r) (let h : 0 < length r - fitting b 0 r = rw (length-drop (fitting b 0 r) r) at l in omega arith)
 
--- without such pairs everything is due
+-- without such pairs nothing is left beyond, and everything is due
+pub goesOn-none : (b : ℕ) (r : List ℕ) → goesOn b r ≡ false → drop (fitting b 0 r) r ≡ []
+unfolding goesOn
+goesOn-none b r g = drop-of-length-le r (ltb-false (fitting b 0 r) (length r) g)
+
 pub due-whole : (b : ℕ) (r : List ℕ) → goesOn b r ≡ false → due b r ≡ r
 unfolding goesOn due
 due-whole b r g = take-all (fitting b 0 r) r (ltb-false (fitting b 0 r) (length r) g)
