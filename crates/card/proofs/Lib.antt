@@ -1,0 +1,3 @@
+pub mod Circle
+pub mod Facts
+pub mod Parts
