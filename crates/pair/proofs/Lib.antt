@@ -1,0 +1,3 @@
+pub mod FirstOf
+pub mod Order
+pub mod Tests
