@@ -1,14 +1,16 @@
 -- What a sound card's words say, taken out of the judge's number and put back.
-use Prim.Native.Nat.{ℕ, zero, suc, _+_, _*_, _-_, _≤_, _<_}
-use mathlib.Core.Path.{_≡_, refl, sym, _∙_, ap}
-use mathlib.Core.Bool.{Bool, true, false, cond, _&&_, not}
+use Prim.Native.Nat.{ℕ, zero, suc, _+_, _-_, _≤_, _<_}
+use mathlib.Core.Path.{_≡_, refl}
+use mathlib.Core.Bool.{Bool, true, false, _&&_, not}
 use mathlib.Core.List.{List, [], _∷_}
 use native.Mathlib.Omega.{arith}
 use native.Mathlib.Nat.{mul-le-mul}
 use lib.ListN.{length}
 use lib.Dec.{ltb, leb, eqb}
-use borrow.Author.Tests.{ltb-true, ltb-false, leb-true, eqb-true, not-false, lt-ltb, le-ltb, le-leb, eq-eqb, ne-eqb}
+use borrow.Author.Tests.{ltb-true, ltb-false, leb-true, eqb-true, not-false, lt-ltb, le-ltb, le-leb, eq-eqb}
 use Rattle.pair.specs.Rising.{risingFrom, last, firstOf}
+use Rattle.pair.proofs.FirstOf.{passed}
+use Rattle.pair.proofs.Tests.{and-left, and-right}
 use Rattle.card.specs.Layout.{word, blockSize, placeCount, oldStart, oldLength, newLength, boundary, entryWidth, cardLength, inLimits, oldPlaces, newPlaces, pairsAt}
 use Rattle.card.specs.Sound.{blocksSound, firstReaches, boundaryWords, segmentsSound, judged}
 
@@ -28,23 +30,6 @@ pub record Facts (c : List ℕ) : Type 0 where
   pub oldRising : risingFrom 0 (pairsAt c (oldPlaces c)) ≡ true
   pub lastNew : last 0 (pairsAt c (newPlaces c)) ≡ boundary c
   pub reaches : firstReaches c (boundary c) (oldPlaces c) ≡ true
-
-passed : (b : Bool) (n : ℕ) (cs : List (Bool × ℕ)) → firstOf ((b, suc n) ∷ cs) ≡ 0 → (b ≡ false) × (firstOf cs ≡ 0)
-unfolding firstOf
-passed true n cs e = absurd (let z : ⊥ = omega arith in z)
-passed false n cs e = (refl, e)
-
-pub and-left : (a b : Bool) → (a && b) ≡ true → a ≡ true
-and-left true b e = refl
-and-left false b e = e
-
-pub and-right : (a b : Bool) → (a && b) ≡ true → b ≡ true
-and-right true b e = e
-and-right false true e = refl
-and-right false false e = e
-
-pub both : (a b : Bool) → a ≡ true → b ≡ true → (a && b) ≡ true
-both a b e f = rw (e, f)
 
 ruleset tests = (and-left, and-right, not-false, leb-true, ltb-true, ltb-false, eqb-true)
 

@@ -1,3 +1,4 @@
 pub mod Circle
 pub mod Facts
+pub mod Frame
 pub mod Parts

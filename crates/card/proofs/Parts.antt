@@ -59,9 +59,3 @@ firstPair-entry c i =
     let z : a + 0 ≡ a = omega arith in
     rw (getD-take 2 (drop a c) 0 0 (omega arith), getD-take 2 (drop a c) 1 0 (omega arith), getD-drop a c 0 0, getD-drop a c 1 0, z)
 
--- Words written in another place leave a place.
-pub place-sets-place :
-    (c ws : List ℕ) (i j : ℕ) → (i ≡ j → ⊥) → length ws ≤ blockSize c → 0 < placeCount c →
-    take (blockSize c) (drop (placeAt entryWidth c i) (sets c (placeAt entryWidth c j) ws)) ≡ place c i
-unfolding place
-place-sets-place c ws i j d h n = part-sets-row ws c (blockSize c) (8 + entryWidth * placeCount c) i j _ _ d h refl refl
