@@ -29,11 +29,21 @@ part-sets-after [] l a p h = refl
 part-sets-after (w ∷ ws) l a p h =
     part-sets-after ws (set l p w) a (suc p) (omega arith) ∙ drop-set-lt a l p w (omega arith)
 
+-- Words written after a word leave it.
+pub word-sets-before : (ws l : List ℕ) (p i : ℕ) → i < p → getD (sets l p ws) i 0 ≡ getD l i 0
+word-sets-before ws l p i h =
+    sym (getD-take p (sets l p ws) i 0 h) ∙ ap (λ x. getD x i 0) (part-sets-before ws l p 0 p (omega arith)) ∙ getD-take p l i 0 h
+
 -- The part that was written reads as the words.
 pub part-sets-same : (ws l : List ℕ) (p : ℕ) → p + length ws ≤ length l → take (length ws) (drop p (sets l p ws)) ≡ ws
 part-sets-same ws l p h =
     let e : length (take p l) ≡ p = length-take-le p l (omega arith) in
     rw (sets-eq ws l p h, append-assoc, drop-at (take p l) (ws ++ drop (p + length ws) l) p e) (take-at ws (drop (p + length ws) l) (length ws) refl)
+
+pub word-sets-same : (ws l : List ℕ) (p i : ℕ) → p + length ws ≤ length l → i < length ws → getD (sets l p ws) (p + i) 0 ≡ getD ws i 0
+word-sets-same ws l p i h h′ =
+    sym (getD-drop p (sets l p ws) i 0) ∙ sym (getD-take (length ws) (drop p (sets l p ws)) i 0 h′)
+    ∙ ap (λ x. getD x i 0) (part-sets-same ws l p h)
 
 -- Of rows of one width side by side, words written in one leave the others.
 pub part-sets-row :
