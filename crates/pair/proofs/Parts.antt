@@ -1,0 +1,142 @@
+-- The parts of a set above a number, up to it, and between two numbers.
+use Prim.Native.Nat.{ℕ, zero, suc, _≤_, _<_}
+use mathlib.Core.Path.{_≡_, refl, sym, ap, _∙_}
+use mathlib.Core.Bool.{Bool, true, false, cond, _&&_, _||_, not}
+use mathlib.Core.List.{List, [], _∷_, _++_, append-nil}
+use lib.ListN.{take, drop, take-append-drop}
+use lib.Dec.{ltb, leb, eqb}
+use native.Mathlib.Omega.{arith}
+use borrow.Author.Tests.{ltb-true, ltb-false, leb-true, leb-false, lt-ltb, le-ltb, le-leb, lt-leb}
+use Rattle.pair.specs.Rising.{Each, keep, above, atMost, within, risingFrom, last}
+use Rattle.pair.proofs.Rising.{rising-head, rising-tail, rising-above, rising-last, rising-take, rising-rest, rising-keep}
+use Rattle.pair.proofs.Sets.{has, has-low, has-high, Each-members}
+use Rattle.pair.proofs.Keep.{keep-append, keep-all, keep-none, keep-before, keep-after, keep-swap}
+use Rattle.pair.proofs.Each.{Each-imply, Each-kept}
+
+pub rising-atMost : (xs : List ℕ) (j k : ℕ) → risingFrom j xs ≡ true → risingFrom j (atMost k xs) ≡ true
+unfolding atMost
+rising-atMost xs j k r = rising-keep (λ x. leb x k) xs j r
+
+pub rising-within : (xs : List ℕ) (j a z : ℕ) → risingFrom j xs ≡ true → risingFrom j (within a z xs) ≡ true
+unfolding within
+rising-within xs j a z r = rising-keep (λ x. leb a x && leb x z) xs j r
+
+pub above-append : (k : ℕ) (xs ys : List ℕ) → above k (xs ++ ys) ≡ above k xs ++ above k ys
+unfolding above
+above-append k xs ys = keep-append (ltb k) xs ys
+
+pub atMost-append : (k : ℕ) (xs ys : List ℕ) → atMost k (xs ++ ys) ≡ atMost k xs ++ atMost k ys
+unfolding atMost
+atMost-append k xs ys = keep-append (λ x. leb x k) xs ys
+
+-- all of a list that rises from k or from above k is above k, and none of it is at most k
+pub above-all : (xs : List ℕ) (k j : ℕ) → k ≤ j → risingFrom j xs ≡ true → above k xs ≡ xs
+unfolding above
+above-all xs k j h r =
+    keep-all (ltb k) xs (Each-members (λ x. ltb k x ≡ true) xs (λ x m. let l : j < x = has-low xs x j r m in lt-ltb k x (omega arith)))
+
+pub atMost-none : (xs : List ℕ) (k j : ℕ) → k ≤ j → risingFrom j xs ≡ true → atMost k xs ≡ []
+unfolding atMost
+atMost-none xs k j h r =
+    keep-none (λ x. leb x k) xs
+    (Each-members (λ x. leb x k ≡ false) xs (λ x m. let l : j < x = has-low xs x j r m in lt-leb x k (omega arith)))
+
+-- all of a rising list is at most its last element or any number from there on, and none of it is above
+pub atMost-all : (xs : List ℕ) (k j : ℕ) → risingFrom j xs ≡ true → last j xs ≤ k → atMost k xs ≡ xs
+unfolding atMost
+atMost-all xs k j r h =
+    keep-all (λ x. leb x k) xs
+    (Each-members (λ x. leb x k ≡ true) xs (λ x m. let l : x ≤ last j xs = has-high xs x j r m in le-leb x k (omega arith)))
+
+pub above-none : (xs : List ℕ) (k j : ℕ) → risingFrom j xs ≡ true → last j xs ≤ k → above k xs ≡ []
+unfolding above
+above-none xs k j r h =
+    keep-none (ltb k) xs
+    (Each-members (λ x. ltb k x ≡ false) xs (λ x m. let l : x ≤ last j xs = has-high xs x j r m in le-ltb k x (omega arith)))
+
+-- a rising list is its part up to k, then its part above k
+pub parts : (xs : List ℕ) (j k : ℕ) → risingFrom j xs ≡ true → atMost k xs ++ above k xs ≡ xs
+unfolding atMost above keep
+parts [] j k r = refl
+parts (x ∷ xs) j k r = go (leb x k) (ltb k x) refl refl (parts xs x k (rising-tail x xs j r))
+  where
+    go : (s t : Bool) → leb x k ≡ s → ltb k x ≡ t → atMost k xs ++ above k xs ≡ xs
+        → cond s (x ∷ atMost k xs) (atMost k xs) ++ cond t (x ∷ above k xs) (above k xs) ≡ x ∷ xs
+    go true true e f ih = absurd (let a : x ≤ k = leb-true x k e in let b : k < x = ltb-true k x f in omega arith)
+    go true false e f ih = rw ih
+    go false true e f ih =
+        let l : k < x = ltb-true k x f in
+        let q : k ≤ x = omega arith in
+        let s : risingFrom x xs ≡ true = rising-tail x xs j r in
+        rw (atMost-none xs k x q s, above-all xs k x q s)
+    go false false e f ih = absurd (let a : k < x = leb-false x k e in let b : x ≤ k = ltb-false k x f in omega arith)
+
+-- parts of parts
+pub above-above : (j k : ℕ) (xs : List ℕ) → j ≤ k → above j (above k xs) ≡ above k xs
+unfolding above
+above-above j k xs h = keep-after (ltb j) (ltb k) (λ x e. let l : k < x = ltb-true k x e in lt-ltb j x (omega arith)) xs
+
+pub above-further : (j k : ℕ) (xs : List ℕ) → j ≤ k → above k (above j xs) ≡ above k xs
+unfolding above
+above-further j k xs h = keep-before (ltb k) (ltb j) (λ x e. let l : k < x = ltb-true k x e in lt-ltb j x (omega arith)) xs
+
+pub atMost-atMost : (j k : ℕ) (xs : List ℕ) → j ≤ k → atMost k (atMost j xs) ≡ atMost j xs
+unfolding atMost
+atMost-atMost j k xs h =
+    keep-after (λ x. leb x k) (λ x. leb x j) (λ x e. let l : x ≤ j = leb-true x j e in le-leb x k (omega arith)) xs
+
+pub atMost-nearer : (j k : ℕ) (xs : List ℕ) → j ≤ k → atMost j (atMost k xs) ≡ atMost j xs
+unfolding atMost
+atMost-nearer j k xs h =
+    keep-before (λ x. leb x j) (λ x. leb x k) (λ x e. let l : x ≤ j = leb-true x j e in le-leb x k (omega arith)) xs
+
+-- nothing up to j is above j or any number from there on, and nothing above k is at most k or any number before it
+pub above-atMost-none : (j k : ℕ) (xs : List ℕ) → j ≤ k → above k (atMost j xs) ≡ []
+unfolding above atMost
+above-atMost-none j k xs h =
+    keep-none (ltb k) (keep (λ x. leb x j) xs)
+    (Each-imply (λ x. leb x j ≡ true) (λ x. ltb k x ≡ false)
+    (λ x e. let l : x ≤ j = leb-true x j e in le-ltb k x (omega arith)) (keep (λ x. leb x j) xs) (Each-kept (λ x. leb x j) xs))
+
+pub atMost-above-none : (j k : ℕ) (xs : List ℕ) → j ≤ k → atMost j (above k xs) ≡ []
+unfolding above atMost
+atMost-above-none j k xs h =
+    keep-none (λ x. leb x j) (keep (ltb k) xs)
+    (Each-imply (λ x. ltb k x ≡ true) (λ x. leb x j ≡ false)
+    (λ x e. let l : k < x = ltb-true k x e in lt-leb x j (omega arith)) (keep (ltb k) xs) (Each-kept (ltb k) xs))
+
+-- the part above j and up to k, either way round
+pub above-atMost : (j k : ℕ) (xs : List ℕ) → above j (atMost k xs) ≡ atMost k (above j xs)
+unfolding above atMost
+above-atMost j k xs = keep-swap (ltb j) (λ x. leb x k) xs
+
+-- above the last of the first n elements stand the others
+pub above-take : (n : ℕ) (xs : List ℕ) (k : ℕ) → risingFrom k xs ≡ true → above (last k (take n xs)) xs ≡ drop n xs
+above-take n xs k r = ap (above (last k (take n xs))) (sym (take-append-drop n xs)) ∙ (above-append (last k (take n xs)) (take n xs) (drop n xs) ∙ go)
+  where
+    go : above (last k (take n xs)) (take n xs) ++ above (last k (take n xs)) (drop n xs) ≡ drop n xs
+    go =
+        rw (above-none (take n xs) (last k (take n xs)) k (rising-take n xs k r) (omega arith))
+        (above-all (drop n xs) (last k (take n xs)) (last k (take n xs)) (omega arith) (rising-rest n xs k r))
+
+-- up to it stand these
+pub atMost-take : (n : ℕ) (xs : List ℕ) (k : ℕ) → risingFrom k xs ≡ true → atMost (last k (take n xs)) xs ≡ take n xs
+atMost-take n xs k r = ap (atMost (last k (take n xs))) (sym (take-append-drop n xs)) ∙ (atMost-append (last k (take n xs)) (take n xs) (drop n xs) ∙ go)
+  where
+    go : atMost (last k (take n xs)) (take n xs) ++ atMost (last k (take n xs)) (drop n xs) ≡ take n xs
+    go =
+        rw (atMost-all (take n xs) (last k (take n xs)) k (rising-take n xs k r) (omega arith))
+        (rw (atMost-none (drop n xs) (last k (take n xs)) (last k (take n xs)) (omega arith) (rising-rest n xs k r)) (append-nil (take n xs)))
+
+-- above the first element of a rising list stand the others
+pub above-first : (x : ℕ) (xs : List ℕ) (k : ℕ) → risingFrom k (x ∷ xs) ≡ true → above x (x ∷ xs) ≡ xs
+unfolding above keep
+above-first x xs k r = rw (le-ltb x x (omega arith)) (above-all xs x x (omega arith) (rising-tail x xs k r))
+
+-- where x is the first above k, the others above k are those above x
+pub above-next : (xs : List ℕ) (j k x : ℕ) (rest : List ℕ) → risingFrom j xs ≡ true → above k xs ≡ x ∷ rest → above x xs ≡ rest
+above-next xs j k x rest r e =
+    let s : risingFrom k (x ∷ rest) ≡ true = rw e at (rising-above xs j k r) in
+    let l : k < x = rising-head x rest k s in
+    let q : k ≤ x = omega arith in
+    sym (above-further k x xs q) ∙ rw e (above-first x rest k s)
