@@ -1,0 +1,4 @@
+pub mod Due
+pub mod Packing
+pub mod Reading
+pub mod Size
