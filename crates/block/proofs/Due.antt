@@ -10,23 +10,11 @@ use lib.Dec.{ltb, leb, eqb}
 use borrow.Author.Tests.{ltb-true, ltb-false, lt-ltb, le-ltb, le-leb}
 use Rattle.pair.specs.Rank.{rank, term, position, Words, Proper}
 use Rattle.pair.specs.Rising.{Each, keep, risingFrom}
-use Rattle.pair.proofs.Tests.{and-left, and-right, and-both}
+use Rattle.pair.proofs.Each.{Each-take}
+use Rattle.pair.proofs.Rising.{rising-take}
 use Rattle.block.specs.Block.{pairs, formed, packed, blockOf, cost, fitting, due, goesOn}
 use Rattle.block.proofs.Size.{size, size-packed, size-fitting, size-keep, block-size, fitting-longest, fitting-whole, fitting-length}
 use Rattle.block.proofs.Packing.{pairs-blockOf, length-blockOf, formed-blockOf, words-blockOf}
-
-each-take : (P : ℕ → Type 0) (n : ℕ) (xs : List ℕ) → Each P xs → Each P (take n xs)
-each-take P zero xs h = tt
-each-take P (suc n) [] h = tt
-each-take P (suc n) (x ∷ xs) (h, hs) = (h, each-take P n xs hs)
-
-rising-take : (k n : ℕ) (xs : List ℕ) → risingFrom k xs ≡ true → risingFrom k (take n xs) ≡ true
-unfolding risingFrom
-rising-take k zero xs h = refl
-rising-take k (suc n) [] h = refl
-rising-take k (suc n) (x ∷ xs) h =
-    and-both (ltb k x) (risingFrom x (take n xs)) (and-left (ltb k x) (risingFrom x xs) h)
-    (rising-take x n xs (and-right (ltb k x) (risingFrom x xs) h))
 
 -- the due pairs cost at most b words
 pub due-size : (b : ℕ) (r : List ℕ) → size 0 (due b r) ≤ b
@@ -87,11 +75,11 @@ due-whole b r g = take-all (fitting b 0 r) r (ltb-false (fitting b 0 r) (length 
 
 pub proper-due : (b : ℕ) (r : List ℕ) → Each Proper r → Each Proper (due b r)
 unfolding due
-proper-due b r h = each-take Proper (fitting b 0 r) r h
+proper-due b r h = Each-take Proper (fitting b 0 r) r h
 
 pub rising-due : (b k : ℕ) (r : List ℕ) → risingFrom k r ≡ true → risingFrom k (due b r) ≡ true
 unfolding due
-rising-due b k r h = rising-take k (fitting b 0 r) r h
+rising-due b k r h = rising-take (fitting b 0 r) r k h
 
 -- the due block fits its place
 pub length-dueBlock : (b : ℕ) (r : List ℕ) → length (blockOf b (due b r)) ≡ b
