@@ -1,12 +1,13 @@
 -- Free places: words written in one, or in its map entry, leave a card alike, and the place after the new segment is free.
 use Prim.Native.Nat.{ℕ, zero, suc, _+_, _*_, _-_, _%_, _≤_, _<_}
-use mathlib.Core.Path.{_≡_, refl, sym, _∙_, ap}
-use mathlib.Core.List.{List, [], _∷_, _++_}
+use mathlib.Core.Path.{_≡_, refl, ap}
+use mathlib.Core.List.{List, [], _∷_}
 use native.Mathlib.Nat.{mul-le-mul-left, mod-lt}
 use native.Mathlib.Omega.{arith}
-use lib.ListN.{length, take, drop, getD}
-use lib.Seq.{sets, length-sets, getD-take}
+use lib.ListN.{length, take}
+use lib.Seq.{sets, length-sets}
 use Rattle.pair.specs.Rising.{Each}
+use Rattle.pair.proofs.Each.{Each-imply}
 use Rattle.card.specs.Layout.{word, blockSize, placeCount, oldStart, oldLength, newLength, entryWidth, entryAt, placeAt, place, around, oldPlaces, newPlaces}
 use Rattle.card.proofs.Circle.{mod-apart, each-around}
 use Rattle.card.proofs.Parts.{entry, part-sets-before, part-sets-after, part-sets-row, word-sets-before}
@@ -36,10 +37,6 @@ due-free c f =
       old = each-around _ n s (oldLength c) (λ j l h. (mod-lt j some, mod-apart n j (s + oldLength c + newLength c) (omega arith) (omega arith)));
     }
 
-each-map : (P Q : ℕ → Type 0) (xs : List ℕ) → ((x : ℕ) → P x → Q x) → Each P xs → Each Q xs
-each-map P Q [] f e = tt
-each-map P Q (x ∷ xs) f e = (f x (e .0), each-map P Q xs f (e .1))
-
 -- Words written in a free place leave the card alike.
 pub alike-place : (c ws : List ℕ) (i : ℕ) → Free c i → length ws ≤ blockSize c → Alike c (sets c (placeAt entryWidth c i) ws)
 unfolding place
@@ -47,8 +44,8 @@ alike-place c ws i f h =
     record {
       long = length-sets c at ws;
       head = part-sets-before ws c 8 0 at (omega arith);
-      new = each-map (Apart c i) _ (newPlaces c) same (f .new);
-      old = each-map (Apart c i) _ (oldPlaces c) same (f .old);
+      new = Each-imply (Apart c i) _ same (newPlaces c) (f .new);
+      old = Each-imply (Apart c i) _ same (oldPlaces c) (f .old);
     }
   where
     at : ℕ
@@ -70,8 +67,8 @@ alike-entry c ws i f h =
     record {
       long = length-sets c at ws;
       head = part-sets-before ws c 8 0 at (omega arith);
-      new = each-map (Apart c i) _ (newPlaces c) same (f .new);
-      old = each-map (Apart c i) _ (oldPlaces c) same (f .old);
+      new = Each-imply (Apart c i) _ same (newPlaces c) (f .new);
+      old = Each-imply (Apart c i) _ same (oldPlaces c) (f .old);
     }
   where
     at : ℕ

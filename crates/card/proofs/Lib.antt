@@ -4,4 +4,5 @@ pub mod Facts
 pub mod Formatted
 pub mod Frame
 pub mod Free
+pub mod Live
 pub mod Parts
