@@ -54,5 +54,6 @@ words-sets (x ∷ vs) l p w v = words-sets vs (set l p x) (suc p) (words-set l p
   where
     first : Words (x ∷ vs) → x < 4294967296
     first v = unfold Words in v 0
+
     rest : Words (x ∷ vs) → Words vs
     rest v = unfold Words in λ i. v (suc i)

@@ -56,7 +56,7 @@ unfolding around
 around-mod n start zero = refl
 around-mod n start (suc len) =
     rw (mod-mod start n) (ap (λ l. start % n ∷ l)
-      (sym (around-mod n (start % n + 1) len) ∙ rw (mod-add-mod start n 1) (around-mod n (start + 1) len)))
+    (sym (around-mod n (start % n + 1) len) ∙ rw (mod-add-mod start n 1) (around-mod n (start + 1) len)))
 
 -- One place more at the end.
 pub around-more : (n start len : ℕ) → around n start (len + 1) ≡ around n start len ++ ((start + len) % n ∷ [])

@@ -75,9 +75,24 @@ pub sound : (c : List ℕ) → Facts c → judged c ≡ 0
 unfolding judged firstOf segmentsSound
 sound c f =
     let l : 8 ≤ length c = omega (arith, f .long) in
-    simp (le-ltb (length c) 8 l, eq-eqb _ _ (f .format), le-leb _ _ (f .sizeLow), le-leb _ _ (f .sizeHigh), le-leb _ _ (f .countLow), le-leb _ _ (f .countHigh),
-      eq-eqb _ _ (f .long), lt-ltb _ _ (f .start), le-ltb (placeCount c - 1) (oldLength c + newLength c) (omega (arith, f .room)),
-      f .boundWords, f .newSound, f .oldSound, f .newRising, f .oldRising, eq-eqb _ _ (f .lastNew), f .reaches)
+    simp (
+      le-ltb (length c) 8 l,
+      eq-eqb _ _ (f .format),
+      le-leb _ _ (f .sizeLow),
+      le-leb _ _ (f .sizeHigh),
+      le-leb _ _ (f .countLow),
+      le-leb _ _ (f .countHigh),
+      eq-eqb _ _ (f .long),
+      lt-ltb _ _ (f .start),
+      le-ltb (placeCount c - 1) (oldLength c + newLength c) (omega (arith, f .room)),
+      f .boundWords,
+      f .newSound,
+      f .oldSound,
+      f .newRising,
+      f .oldRising,
+      eq-eqb _ _ (f .lastNew),
+      f .reaches,
+    )
 
 -- Within the limits a card has at most 1,050,632 words.
 pub card-length : (c : List ℕ) → judged c ≡ 0 → length c ≤ 1050632

@@ -121,5 +121,5 @@ module _ (c : List ℕ) (b n : ℕ) (e : formatNumber c b n ≡ 0) where
   formatted-words w hb hn =
       let z : 0 < 4294967296 = omega arith in
       rw formatted-is (words-sets (fresh b n) c 0 w
-        (words-cons _ _ (omega arith) (words-cons _ _ hb (words-cons _ _ hn
-          (words-cons _ _ z (words-cons _ _ z (words-cons _ _ z (words-cons _ _ z (words-cons _ _ z words-nil)))))))))
+      (words-cons _ _ (omega arith) (words-cons _ _ hb (words-cons _ _ hn
+      (words-cons _ _ z (words-cons _ _ z (words-cons _ _ z (words-cons _ _ z (words-cons _ _ z words-nil)))))))))

@@ -98,8 +98,16 @@ module _ (c d : List ℕ) (a : Alike c d) where
   segments-alike : segmentsSound d ≡ segmentsSound c
   unfolding segmentsSound
   segments-alike =
-      rw (newPairs-alike, oldPairs-alike, boundary-alike, newPlaces-alike, oldPlaces-alike, blocksSound-alike c d (newPlaces c) (a .new),
-        blocksSound-alike c d (oldPlaces c) (a .old), firstReaches-alike c d (boundary c) (oldPlaces c) (a .old))
+      rw (
+        newPairs-alike,
+        oldPairs-alike,
+        boundary-alike,
+        newPlaces-alike,
+        oldPlaces-alike,
+        blocksSound-alike c d (newPlaces c) (a .new),
+        blocksSound-alike c d (oldPlaces c) (a .old),
+        firstReaches-alike c d (boundary c) (oldPlaces c) (a .old),
+      )
 
   -- The judge's number is the same.
   pub judged-alike : judged d ≡ judged c

@@ -50,6 +50,7 @@ alike-place c ws i f h =
   where
     at : ℕ
     at = placeAt entryWidth c i
+
     same : (j : ℕ) → Apart c i j → SameAt c (sets c at ws) j
     same j a =
         record {
@@ -73,6 +74,7 @@ alike-entry c ws i f h =
   where
     at : ℕ
     at = entryAt entryWidth i
+
     same : (j : ℕ) → Apart c i j → SameAt c (sets c at ws) j
     same j a =
         record {

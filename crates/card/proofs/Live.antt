@@ -57,16 +57,23 @@ module _ (c : List ℕ) (f : Facts c) where
   unfolding live
   live-atMost =
       let h : last 0 (pairsAt c (newPlaces c)) ≤ boundary c = omega (arith, f .lastNew) in
-      rw (atMost-append, atMost-all (pairsAt c (newPlaces c)) (boundary c) 0 (f .newRising) h,
-        atMost-above-none (boundary c) (boundary c) (pairsAt c (oldPlaces c)) (omega arith), append-nil)
+      rw (
+        atMost-append,
+        atMost-all (pairsAt c (newPlaces c)) (boundary c) 0 (f .newRising) h,
+        atMost-above-none (boundary c) (boundary c) (pairsAt c (oldPlaces c)) (omega arith),
+        append-nil,
+      )
 
   -- Above it they are the old segment's.
   pub live-above : above (boundary c) (live c) ≡ above (boundary c) (pairsAt c (oldPlaces c))
   unfolding live
   live-above =
       let h : last 0 (pairsAt c (newPlaces c)) ≤ boundary c = omega (arith, f .lastNew) in
-      rw (above-append, above-none (pairsAt c (newPlaces c)) (boundary c) 0 (f .newRising) h,
-        above-above (boundary c) (boundary c) (pairsAt c (oldPlaces c)) (omega arith))
+      rw (
+        above-append,
+        above-none (pairsAt c (newPlaces c)) (boundary c) 0 (f .newRising) h,
+        above-above (boundary c) (boundary c) (pairsAt c (oldPlaces c)) (omega arith),
+      )
 
   -- All of them are pairs.
   pub live-proper : Words c → Each Proper (live c)

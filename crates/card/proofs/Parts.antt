@@ -68,4 +68,3 @@ firstPair-entry c i =
     let a = entryAt entryWidth i in
     let z : a + 0 ≡ a = omega arith in
     rw (getD-take 2 (drop a c) 0 0 (omega arith), getD-take 2 (drop a c) 1 0 (omega arith), getD-drop a c 0 0, getD-drop a c 1 0, z)
-
