@@ -1,2 +1,3 @@
+pub mod BlocksRead
 pub mod Kept
 pub mod Landed

@@ -1,0 +1,125 @@
+-- A card just formatted is sound, has no live pair and no boundary.
+use Prim.Native.Nat.{ℕ, zero, suc, _+_, _*_, _-_, _≤_, _<_}
+use mathlib.Core.Path.{_≡_, refl, sym, _∙_, ap}
+use mathlib.Core.Bool.{Bool, true, false, _&&_, not}
+use mathlib.Core.List.{List, [], _∷_}
+use native.Mathlib.Omega.{arith}
+use lib.ListN.{length, drop, getD}
+use lib.Seq.{sets, length-sets}
+use lib.Dec.{ltb, leb, eqb}
+use borrow.Author.Tests.{leb-true, eqb-true, not-false, eq-eqb}
+use Rattle.pair.specs.Rank.{rank, Words}
+use Rattle.pair.specs.Rising.{above, keep, risingFrom, last, firstOf}
+use Rattle.pair.proofs.FirstOf.{passed}
+use Rattle.pair.proofs.Tests.{and-left, and-right}
+use Rattle.card.specs.Layout.{word, blockSize, placeCount, oldStart, oldLength, newLength, boundary, entryWidth, cardLength, inLimits, around, oldPlaces, newPlaces, pairsAt, live, formatNumber, formatted}
+use Rattle.card.specs.Sound.{blocksSound, firstReaches, boundaryWords, judged}
+use Rattle.card.proofs.Facts.{Facts, sound}
+use Rattle.card.proofs.Parts.{part-sets-after, word-sets-same}
+use Rattle.card.proofs.Bits.{words-sets, words-cons, words-nil}
+
+-- what the formatter asks for
+pub record Formattable (c : List ℕ) (b n : ℕ) : Type 0 where
+  pub sizeLow : 8 ≤ b
+  pub sizeHigh : b ≤ 1024
+  pub countLow : 2 ≤ n
+  pub countHigh : n ≤ 1024
+  pub long : length c ≡ cardLength entryWidth b n
+
+ruleset tests = (and-left, and-right, not-false, leb-true, eqb-true)
+
+pub formattable : (c : List ℕ) (b n : ℕ) → formatNumber c b n ≡ 0 → Formattable c b n
+unfolding formatNumber
+formattable c b n e =
+    let p1 = passed _ _ _ e in
+    let p2 = passed _ _ _ (p1 .1) in
+    gather (not-false _ (p1 .0)) (not-false _ (p2 .0))
+  where
+    gather : inLimits b n ≡ true → eqb (length c) (cardLength entryWidth b n) ≡ true → Formattable c b n
+    gather l e = record { sizeLow = search tests; sizeHigh = search tests; countLow = search tests; countHigh = search tests; long = eqb-true _ _ e }
+
+abbrev fresh : ℕ → ℕ → List ℕ
+fresh b n = 1 ∷ b ∷ n ∷ 0 ∷ 0 ∷ 0 ∷ 0 ∷ 0 ∷ []
+
+module _ (c : List ℕ) (b n : ℕ) (e : formatNumber c b n ≡ 0) where
+  pub formatted-is : formatted c b n ≡ sets c 0 (fresh b n)
+  unfolding formatted
+  formatted-is = rw e
+
+  f : Formattable c b n
+  f = formattable c b n e
+
+  pub formatted-word : (i : ℕ) → i < 8 → word (formatted c b n) i ≡ getD (fresh b n) i 0
+  formatted-word i h =
+      let z : i ≡ 0 + i = omega arith in
+      ap (λ d. getD d i 0) formatted-is ∙ ap (λ j. getD (sets c 0 (fresh b n)) j 0) z
+      ∙ word-sets-same (fresh b n) c 0 i (omega (arith, f .long)) h
+
+  size : word (formatted c b n) 1 ≡ b
+  size = formatted-word 1 (omega arith)
+
+  count : word (formatted c b n) 2 ≡ n
+  count = formatted-word 2 (omega arith)
+
+  pub formatted-old : word (formatted c b n) 4 ≡ 0
+  formatted-old = formatted-word 4 (omega arith)
+
+  pub formatted-new : word (formatted c b n) 5 ≡ 0
+  formatted-new = formatted-word 5 (omega arith)
+
+  pub formatted-term : word (formatted c b n) 6 ≡ 0
+  formatted-term = formatted-word 6 (omega arith)
+
+  pub formatted-position : word (formatted c b n) 7 ≡ 0
+  formatted-position = formatted-word 7 (omega arith)
+
+  oldNone : oldPlaces (formatted c b n) ≡ []
+  unfolding around
+  oldNone = rw formatted-old
+
+  newNone : newPlaces (formatted c b n) ≡ []
+  unfolding around
+  newNone = rw formatted-new
+
+  pub formatted-bound : boundary (formatted c b n) ≡ 0
+  formatted-bound = rw (formatted-term, formatted-position)
+
+  -- It is sound.
+  pub formatted-sound : judged (formatted c b n) ≡ 0
+  unfolding boundaryWords blocksSound firstReaches pairsAt risingFrom last
+  formatted-sound =
+      let l : length (formatted c b n) ≡ length c = ap length formatted-is ∙ length-sets c 0 (fresh b n) in
+      sound (formatted c b n) (record {
+        format = formatted-word 0 (omega arith);
+        sizeLow = rw size (f .sizeLow);
+        sizeHigh = rw size (f .sizeHigh);
+        countLow = rw count (f .countLow);
+        countHigh = rw count (f .countHigh);
+        long = rw (size, count) (l ∙ f .long);
+        start = rw (count, formatted-word 3 (omega arith)) (omega (arith, f .countLow));
+        room = rw (count, formatted-old, formatted-new) (omega (arith, f .countLow));
+        boundWords = rw (formatted-new, formatted-term, formatted-position);
+        newSound = rw newNone;
+        oldSound = rw oldNone;
+        newRising = rw newNone;
+        oldRising = rw oldNone;
+        lastNew = rw (newNone, formatted-bound);
+        reaches = rw oldNone;
+      })
+
+  -- It has no live pair.
+  pub formatted-live : live (formatted c b n) ≡ []
+  unfolding live pairsAt above keep
+  formatted-live = rw (newNone, oldNone)
+
+  -- All words but the first 8 stand.
+  pub formatted-rest : drop 8 (formatted c b n) ≡ drop 8 c
+  formatted-rest = rw formatted-is (part-sets-after (fresh b n) c 8 0 (omega arith))
+
+  -- It has 32-bit words.
+  pub formatted-words : Words c → b < 4294967296 → n < 4294967296 → Words (formatted c b n)
+  formatted-words w hb hn =
+      let z : 0 < 4294967296 = omega arith in
+      rw formatted-is (words-sets (fresh b n) c 0 w
+        (words-cons _ _ (omega arith) (words-cons _ _ hb (words-cons _ _ hn
+          (words-cons _ _ z (words-cons _ _ z (words-cons _ _ z (words-cons _ _ z (words-cons _ _ z words-nil)))))))))

@@ -1,0 +1,83 @@
+-- Free places: words written in one, or in its map entry, leave a card alike, and the place after the new segment is free.
+use Prim.Native.Nat.{ℕ, zero, suc, _+_, _*_, _-_, _%_, _≤_, _<_}
+use mathlib.Core.Path.{_≡_, refl, ap}
+use mathlib.Core.List.{List, [], _∷_}
+use native.Mathlib.Nat.{mul-le-mul-left, mod-lt}
+use native.Mathlib.Omega.{arith}
+use lib.ListN.{length, take}
+use lib.Seq.{sets, length-sets}
+use Rattle.pair.specs.Rising.{Each}
+use Rattle.pair.proofs.Each.{Each-imply}
+use Rattle.card.specs.Layout.{word, blockSize, placeCount, oldStart, oldLength, newLength, entryWidth, entryAt, placeAt, place, around, oldPlaces, newPlaces}
+use Rattle.card.proofs.Circle.{mod-apart, each-around}
+use Rattle.card.proofs.Parts.{entry, part-sets-before, part-sets-after, part-sets-row, word-sets-before}
+use Rattle.card.proofs.Facts.{Facts}
+use Rattle.card.proofs.Frame.{SameAt, Alike}
+
+-- the place stands on the card and is none of these
+abbrev pub Apart : List ℕ → ℕ → ℕ → Type 0
+Apart c i j = (j < placeCount c) × (j ≡ i → ⊥)
+
+-- the place lies in neither segment
+pub record Free (c : List ℕ) (i : ℕ) : Type 0 where
+  pub inside : i < placeCount c
+  pub new : Each (Apart c i) (newPlaces c)
+  pub old : Each (Apart c i) (oldPlaces c)
+
+-- One place is always free: the place after the new segment lies in neither segment.
+pub due-free : (c : List ℕ) → Facts c → Free c ((oldStart c + oldLength c + newLength c) % placeCount c)
+due-free c f =
+    let n = placeCount c in
+    let s = oldStart c in
+    let room : oldLength c + newLength c < n = f .room in
+    let some : 0 < n = omega (arith, f .countLow) in
+    record {
+      inside = mod-lt _ some;
+      new = each-around _ n (s + oldLength c) (newLength c) (λ j l h. (mod-lt j some, mod-apart n j (s + oldLength c + newLength c) h (omega arith)));
+      old = each-around _ n s (oldLength c) (λ j l h. (mod-lt j some, mod-apart n j (s + oldLength c + newLength c) (omega arith) (omega arith)));
+    }
+
+-- Words written in a free place leave the card alike.
+pub alike-place : (c ws : List ℕ) (i : ℕ) → Free c i → length ws ≤ blockSize c → Alike c (sets c (placeAt entryWidth c i) ws)
+unfolding place
+alike-place c ws i f h =
+    record {
+      long = length-sets c at ws;
+      head = part-sets-before ws c 8 0 at (omega arith);
+      new = Each-imply (Apart c i) _ same (newPlaces c) (f .new);
+      old = Each-imply (Apart c i) _ same (oldPlaces c) (f .old);
+    }
+  where
+    at : ℕ
+    at = placeAt entryWidth c i
+    same : (j : ℕ) → Apart c i j → SameAt c (sets c at ws) j
+    same j a =
+        record {
+          block =
+              rw (word-sets-before ws c at 1 (omega arith), word-sets-before ws c at 2 (omega arith))
+              (part-sets-row ws c (blockSize c) (8 + entryWidth * placeCount c) j i _ _ (a .1) h refl refl);
+          mapped =
+              part-sets-before ws c entryWidth (entryAt entryWidth j) at (omega (arith, mul-le-mul-left {m = suc j} entryWidth (a .0)));
+        }
+
+-- Words written in its map entry do too.
+pub alike-entry : (c ws : List ℕ) (i : ℕ) → Free c i → length ws ≤ entryWidth → Alike c (sets c (entryAt entryWidth i) ws)
+unfolding place
+alike-entry c ws i f h =
+    record {
+      long = length-sets c at ws;
+      head = part-sets-before ws c 8 0 at (omega arith);
+      new = Each-imply (Apart c i) _ same (newPlaces c) (f .new);
+      old = Each-imply (Apart c i) _ same (oldPlaces c) (f .old);
+    }
+  where
+    at : ℕ
+    at = entryAt entryWidth i
+    same : (j : ℕ) → Apart c i j → SameAt c (sets c at ws) j
+    same j a =
+        record {
+          block =
+              rw (word-sets-before ws c at 1 (omega arith), word-sets-before ws c at 2 (omega arith))
+              (ap (take (blockSize c)) (part-sets-after ws c (placeAt entryWidth c j) at (omega (arith, h, mul-le-mul-left {m = suc i} entryWidth (f .inside)))));
+          mapped = part-sets-row ws c entryWidth 8 j i (entryAt entryWidth j) at (a .1) h (omega arith) (omega arith);
+        }

@@ -1,0 +1,71 @@
+-- Parts of a list of words, and where the places and map entries of a card lie, over any width.
+use Prim.Native.Nat.{ℕ, zero, suc, _+_, _*_, _-_, _≤_, _<_}
+use mathlib.Core.Path.{_≡_, refl, sym, _∙_, ap}
+use mathlib.Core.Bool.{Bool, true, false}
+use mathlib.Core.List.{List, [], _∷_, _++_, append-assoc}
+use native.Mathlib.Nat.{mul-le-mul-right}
+use native.Mathlib.Omega.{arith}
+use lib.ListN.{length, take, drop, getD, set, length-take}
+use lib.Seq.{sets, sets-eq, take-set-le, drop-set-add, drop-set-lt, take-at, drop-at, length-take-le, getD-drop, getD-take}
+use lib.Dec.{ltb}
+use borrow.Author.Tests.{ltb-true, ltb-false}
+use Rattle.pair.specs.Rank.{rank}
+use Rattle.card.specs.Layout.{word, blockSize, placeCount, entryWidth, entryAt, placeAt, firstPair, place}
+
+-- Words written after a part leave it.
+pub part-sets-before : (ws l : List ℕ) (m a p : ℕ) → a + m ≤ p → take m (drop a (sets l p ws)) ≡ take m (drop a l)
+part-sets-before [] l m a p h = refl
+part-sets-before (w ∷ ws) l m a p h = part-sets-before ws (set l p w) m a (suc p) (omega arith) ∙ one
+  where
+    one : take m (drop a (set l p w)) ≡ take m (drop a l)
+    one =
+        let e : p ≡ a + (p - a) = omega arith in
+        ap (λ q. take m (drop a (set l q w))) e ∙ ap (take m) (drop-set-add a l (p - a) w)
+        ∙ take-set-le m (drop a l) (p - a) w (omega arith)
+
+-- Words written before a part leave it, and all that follows it.
+pub part-sets-after : (ws l : List ℕ) (a p : ℕ) → p + length ws ≤ a → drop a (sets l p ws) ≡ drop a l
+part-sets-after [] l a p h = refl
+part-sets-after (w ∷ ws) l a p h =
+    part-sets-after ws (set l p w) a (suc p) (omega arith) ∙ drop-set-lt a l p w (omega arith)
+
+-- Words written after a word leave it.
+pub word-sets-before : (ws l : List ℕ) (p i : ℕ) → i < p → getD (sets l p ws) i 0 ≡ getD l i 0
+word-sets-before ws l p i h =
+    sym (getD-take p (sets l p ws) i 0 h) ∙ ap (λ x. getD x i 0) (part-sets-before ws l p 0 p (omega arith)) ∙ getD-take p l i 0 h
+
+-- The part that was written reads as the words.
+pub part-sets-same : (ws l : List ℕ) (p : ℕ) → p + length ws ≤ length l → take (length ws) (drop p (sets l p ws)) ≡ ws
+part-sets-same ws l p h =
+    let e : length (take p l) ≡ p = length-take-le p l (omega arith) in
+    rw (sets-eq ws l p h, append-assoc, drop-at (take p l) (ws ++ drop (p + length ws) l) p e) (take-at ws (drop (p + length ws) l) (length ws) refl)
+
+pub word-sets-same : (ws l : List ℕ) (p i : ℕ) → p + length ws ≤ length l → i < length ws → getD (sets l p ws) (p + i) 0 ≡ getD ws i 0
+word-sets-same ws l p i h h′ =
+    sym (getD-drop p (sets l p ws) i 0) ∙ sym (getD-take (length ws) (drop p (sets l p ws)) i 0 h′)
+    ∙ ap (λ x. getD x i 0) (part-sets-same ws l p h)
+
+-- Of rows of one width side by side, words written in one leave the others.
+pub part-sets-row :
+    (ws l : List ℕ) (w o i j a p : ℕ) → (i ≡ j → ⊥) → length ws ≤ w → a ≡ o + i * w → p ≡ o + j * w →
+    take w (drop a (sets l p ws)) ≡ take w (drop a l)
+part-sets-row ws l w o i j a p d h ea ep = go (ltb i j) refl
+  where
+    go : (s : Bool) → ltb i j ≡ s → take w (drop a (sets l p ws)) ≡ take w (drop a l)
+    go true t = part-sets-before ws l w a p (omega (arith, mul-le-mul-right {n = j} w (ltb-true i j t)))
+    go false t =
+        let below : j < i = omega (arith, ltb-false i j t, d) in
+        ap (take w) (part-sets-after ws l a p (omega (arith, mul-le-mul-right {n = i} w below)))
+
+-- the words of a map entry
+abbrev pub entry : List ℕ → ℕ → List ℕ
+entry c i = take entryWidth (drop (entryAt entryWidth i) c)
+
+-- The map's pair is read from them.
+pub firstPair-entry : (c : List ℕ) (i : ℕ) → firstPair c i ≡ rank (getD (entry c i) 0 0) (getD (entry c i) 1 0)
+unfolding firstPair
+firstPair-entry c i =
+    let a = entryAt entryWidth i in
+    let z : a + 0 ≡ a = omega arith in
+    rw (getD-take 2 (drop a c) 0 0 (omega arith), getD-take 2 (drop a c) 1 0 (omega arith), getD-drop a c 0 0, getD-drop a c 1 0, z)
+
