@@ -1,3 +1,4 @@
 pub mod BlocksRead
 pub mod Kept
+pub mod KeptEvents
 pub mod Landed
