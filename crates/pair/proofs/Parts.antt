@@ -8,7 +8,7 @@ use lib.Dec.{ltb, leb, eqb}
 use native.Mathlib.Omega.{arith}
 use borrow.Author.Tests.{ltb-true, ltb-false, leb-true, leb-false, lt-ltb, le-ltb, le-leb, lt-leb}
 use Rattle.pair.specs.Rising.{Each, keep, above, atMost, within, risingFrom, last}
-use Rattle.pair.proofs.Rising.{rising-head, rising-tail, rising-above, rising-last, rising-take, rising-rest, rising-keep}
+use Rattle.pair.proofs.Rising.{rising-head, rising-tail, rising-above, rising-last, rising-take, rising-rest, rising-keep, rises, rises-from, rises-tail}
 use Rattle.pair.proofs.Sets.{has, has-low, has-high, Each-members}
 use Rattle.pair.proofs.Keep.{keep-append, keep-all, keep-none, keep-before, keep-after, keep-swap}
 use Rattle.pair.proofs.Each.{Each-imply, Each-kept}
@@ -55,10 +55,10 @@ above-none xs k j r h =
     (Each-members (λ x. ltb k x ≡ false) xs (λ x m. let l : x ≤ last j xs = has-high xs x j r m in le-ltb k x (omega arith)))
 
 -- a rising list is its part up to k, then its part above k
-pub parts : (xs : List ℕ) (j k : ℕ) → risingFrom j xs ≡ true → atMost k xs ++ above k xs ≡ xs
-unfolding atMost above keep
-parts [] j k r = refl
-parts (x ∷ xs) j k r = go (leb x k) (ltb k x) refl refl (parts xs x k (rising-tail x xs j r))
+pub rises-parts : (xs : List ℕ) (k : ℕ) → rises xs ≡ true → atMost k xs ++ above k xs ≡ xs
+unfolding atMost above keep rises
+rises-parts [] k r = refl
+rises-parts (x ∷ xs) k r = go (leb x k) (ltb k x) refl refl (rises-parts xs k (rises-tail x xs r))
   where
     go : (s t : Bool) → leb x k ≡ s → ltb k x ≡ t → atMost k xs ++ above k xs ≡ xs
         → cond s (x ∷ atMost k xs) (atMost k xs) ++ cond t (x ∷ above k xs) (above k xs) ≡ x ∷ xs
@@ -67,9 +67,11 @@ parts (x ∷ xs) j k r = go (leb x k) (ltb k x) refl refl (parts xs x k (rising-
     go false true e f ih =
         let l : k < x = ltb-true k x f in
         let q : k ≤ x = omega arith in
-        let s : risingFrom x xs ≡ true = rising-tail x xs j r in
-        rw (atMost-none xs k x q s, above-all xs k x q s)
+        rw (atMost-none xs k x q r, above-all xs k x q r)
     go false false e f ih = absurd (let a : k < x = leb-false x k e in let b : x ≤ k = ltb-false k x f in omega arith)
+
+pub parts : (xs : List ℕ) (j k : ℕ) → risingFrom j xs ≡ true → atMost k xs ++ above k xs ≡ xs
+parts xs j k r = rises-parts xs k (rises-from xs j r)
 
 -- parts of parts
 pub above-above : (j k : ℕ) (xs : List ℕ) → j ≤ k → above j (above k xs) ≡ above k xs

@@ -104,3 +104,39 @@ pub last-append : (xs ys : List ℕ) (d : ℕ) → last d (xs ++ ys) ≡ last (l
 unfolding last
 last-append [] ys d = refl
 last-append (x ∷ xs) ys d = last-append xs ys x
+
+-- a list that rises, from wherever it begins
+unfoldable pub rises : List ℕ → Bool
+rises [] = true
+rises (x ∷ xs) = risingFrom x xs
+
+pub rises-from : (xs : List ℕ) (k : ℕ) → risingFrom k xs ≡ true → rises xs ≡ true
+unfolding rises
+rises-from [] k r = refl
+rises-from (x ∷ xs) k r = rising-tail x xs k r
+
+pub rises-tail : (x : ℕ) (xs : List ℕ) → rises (x ∷ xs) ≡ true → rises xs ≡ true
+unfolding rises
+rises-tail x xs r = rises-from xs x r
+
+pub rises-keep : (f : ℕ → Bool) (xs : List ℕ) → rises xs ≡ true → rises (keep f xs) ≡ true
+unfolding rises keep
+rises-keep f [] r = refl
+rises-keep f (x ∷ xs) r = go (f x)
+  where
+    go : (t : Bool) → rises (cond t (x ∷ keep f xs) (keep f xs)) ≡ true
+    go true = rising-keep f xs x r
+    go false = rises-from (keep f xs) x (rising-keep f xs x r)
+
+pub rises-insert : (n : ℕ) (xs : List ℕ) → rises xs ≡ true → rises (insert n xs) ≡ true
+unfolding rises insert risingFrom
+rises-insert n [] r = refl
+rises-insert n (x ∷ xs) r = go (ltb n x) (eqb n x) refl refl
+  where
+    go : (s t : Bool) → ltb n x ≡ s → eqb n x ≡ t → rises (cond s (n ∷ x ∷ xs) (cond t (x ∷ xs) (x ∷ insert n xs))) ≡ true
+    go true t e f = rising-cons x xs n (ltb-true n x e) r
+    go false true e f = r
+    go false false e f =
+        let l : x ≤ n = ltb-false n x e in
+        let d : n ≢ x = eqb-false n x f in
+        rising-insert n xs x (omega arith) r

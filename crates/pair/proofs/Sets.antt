@@ -9,7 +9,7 @@ use native.Mathlib.Omega.{arith}
 use borrow.Author.Tests.{ltb-true, ltb-false, eqb-true, eqb-false, lt-ltb, eq-eqb, ne-eqb}
 use Rattle.pair.specs.Rising.{Each, keep, risingFrom, insert, last, any}
 use Rattle.pair.proofs.Tests.{and-left, and-right, and-both, or-cases, or-intro, contradiction, test-ext}
-use Rattle.pair.proofs.Rising.{rising-head, rising-tail, rising-last}
+use Rattle.pair.proofs.Rising.{rising-head, rising-tail, rising-last, rises, rises-from, rises-tail}
 use Rattle.pair.proofs.Each.{Each-last-cons}
 use Rattle.pair.proofs.Keep.{keep-agree}
 
@@ -85,23 +85,22 @@ pub has-head : (x : ℕ) (xs : List ℕ) → has x (x ∷ xs) ≡ true
 unfolding has any
 has-head x xs = rw (eq-eqb x x refl)
 
--- a member of x and xs is x, or it is above x and a member of xs
-pub has-cases : (x : ℕ) (xs : List ℕ) (k y : ℕ) → risingFrom k (x ∷ xs) ≡ true → has y (x ∷ xs) ≡ true → (y ≡ x) ⊎ ((x < y) × (has y xs ≡ true))
+-- where xs rises from x, a member of x and xs is x, or it is above x and a member of xs
+pub has-cases : (x : ℕ) (xs : List ℕ) (y : ℕ) → risingFrom x xs ≡ true → has y (x ∷ xs) ≡ true → (y ≡ x) ⊎ ((x < y) × (has y xs ≡ true))
 unfolding has any
-has-cases x xs k y r h = go (or-cases (eqb y x) (has y xs) h)
+has-cases x xs y r h = go (or-cases (eqb y x) (has y xs) h)
   where
     go : (eqb y x ≡ true) ⊎ (has y xs ≡ true) → (y ≡ x) ⊎ ((x < y) × (has y xs ≡ true))
     go (inl e) = inl (eqb-true y x e)
-    go (inr m) = inr (has-low xs y x (rising-tail x xs k r) m, m)
+    go (inr m) = inr (has-low xs y x r m, m)
 
--- the members of a rising list above its first are those of the rest
-pub has-rest : (x : ℕ) (xs : List ℕ) (k y : ℕ) → risingFrom k (x ∷ xs) ≡ true → has y xs ≡ (ltb x y && has y (x ∷ xs))
+-- and the members above x are those of xs
+pub has-rest : (x : ℕ) (xs : List ℕ) (y : ℕ) → risingFrom x xs ≡ true → has y xs ≡ (ltb x y && has y (x ∷ xs))
 unfolding has any
-has-rest x xs k y r = test-ext (has y xs) (ltb x y && (eqb y x || has y xs)) to from
+has-rest x xs y r = test-ext (has y xs) (ltb x y && (eqb y x || has y xs)) to from
   where
     to : has y xs ≡ true → (ltb x y && (eqb y x || has y xs)) ≡ true
-    to h =
-        and-both (ltb x y) (eqb y x || has y xs) (lt-ltb x y (has-low xs y x (rising-tail x xs k r) h)) (or-intro (eqb y x) (has y xs) (inr h))
+    to h = and-both (ltb x y) (eqb y x || has y xs) (lt-ltb x y (has-low xs y x r h)) (or-intro (eqb y x) (has y xs) (inr h))
 
     go : x < y → (y ≡ x) ⊎ ((x < y) × (has y xs ≡ true)) → has y xs ≡ true
     go l (inl e) = absurd (omega arith)
@@ -110,20 +109,19 @@ has-rest x xs k y r = test-ext (has y xs) (ltb x y && (eqb y x || has y xs)) to 
     from : (ltb x y && (eqb y x || has y xs)) ≡ true → has y xs ≡ true
     from h =
         go (ltb-true x y (and-left (ltb x y) (eqb y x || has y xs) h))
-        (has-cases x xs k y r (and-right (ltb x y) (eqb y x || has y xs) h))
+        (has-cases x xs y r (and-right (ltb x y) (eqb y x || has y xs) h))
+
+pub has-none : (x : ℕ) → has x [] ≡ false
+unfolding has any
+has-none x = refl
 
 -- two rising lists with the same members are equal
-pub rising-ext : (xs ys : List ℕ) (k : ℕ) → risingFrom k xs ≡ true → risingFrom k ys ≡ true → ((x : ℕ) → has x xs ≡ has x ys) → xs ≡ ys
-rising-ext [] [] k r s h = refl
-rising-ext [] (y ∷ ys) k r s h = absurd (false≢true (none y ∙ (h y ∙ has-head y ys)))
-  where
-    none : (x : ℕ) → false ≡ has x []
-    none x = unfold has any in refl
-rising-ext (x ∷ xs) [] k r s h = absurd (false≢true (none x ∙ (sym (h x) ∙ has-head x xs)))
-  where
-    none : (y : ℕ) → false ≡ has y []
-    none y = unfold has any in refl
-rising-ext (x ∷ xs) (y ∷ ys) k r s h = rw (first, rising-ext xs ys x (rising-tail x xs k r) (rw first (rising-tail y ys k s)) rest)
+pub rises-ext : (xs ys : List ℕ) → rises xs ≡ true → rises ys ≡ true → ((x : ℕ) → has x xs ≡ has x ys) → xs ≡ ys
+unfolding rises
+rises-ext [] [] r s h = refl
+rises-ext [] (y ∷ ys) r s h = contradiction (has y (y ∷ ys)) (has-head y ys) (sym (h y) ∙ has-none y)
+rises-ext (x ∷ xs) [] r s h = contradiction (has x (x ∷ xs)) (has-head x xs) (h x ∙ has-none x)
+rises-ext (x ∷ xs) (y ∷ ys) r s h = rw (first, rises-ext xs ys (rises-tail x xs r) (rises-tail y ys s) rest)
   where
     at : (x ≡ y) ⊎ ((y < x) × (has x ys ≡ true)) → (y ≡ x) ⊎ ((x < y) × (has y xs ≡ true)) → x ≡ y
     at (inl e) q = e
@@ -131,10 +129,13 @@ rising-ext (x ∷ xs) (y ∷ ys) k r s h = rw (first, rising-ext xs ys x (rising
     at (inr m) (inr n) = absurd (omega arith)
 
     first : x ≡ y
-    first = at (has-cases y ys k x s (sym (h x) ∙ has-head x xs)) (has-cases x xs k y r (h y ∙ has-head y ys))
+    first = at (has-cases y ys x s (sym (h x) ∙ has-head x xs)) (has-cases x xs y r (h y ∙ has-head y ys))
 
     rest : (z : ℕ) → has z xs ≡ has z ys
-    rest z = has-rest x xs k z r ∙ (rw (h z, first) (sym (has-rest y ys k z s)))
+    rest z = has-rest x xs z r ∙ rw (h z, first) (sym (has-rest y ys z s))
+
+pub rising-ext : (xs ys : List ℕ) (j k : ℕ) → risingFrom j xs ≡ true → risingFrom k ys ≡ true → ((x : ℕ) → has x xs ≡ has x ys) → xs ≡ ys
+rising-ext xs ys j k r s h = rises-ext xs ys (rises-from xs j r) (rises-from ys k s) h
 
 -- a property of the members
 pub Each-has : (P : ℕ → Type 0) (xs : List ℕ) (x : ℕ) → Each P xs → has x xs ≡ true → P x
