@@ -1,3 +1,5 @@
+pub mod Configuration
 pub mod Configured
 pub mod Grown
+pub mod Settled
 pub mod Spent
