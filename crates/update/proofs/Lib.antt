@@ -1,5 +1,9 @@
 pub mod Configuration
 pub mod Configured
+pub mod Frame
 pub mod Grown
+pub mod Next
 pub mod Settled
 pub mod Spent
+pub mod Steps
+pub mod Writes
