@@ -8,6 +8,10 @@ use native.Mathlib.Omega.{arith}
 use Rattle.pair.specs.Rising.{Each, keep}
 use Rattle.pair.proofs.Tests.{contradiction}
 
+pub keep-cons : (f : ℕ → Bool) (x : ℕ) (xs : List ℕ) → keep f (x ∷ xs) ≡ cond (f x) (x ∷ keep f xs) (keep f xs)
+unfolding keep
+keep-cons f x xs = refl
+
 pub keep-append : (f : ℕ → Bool) (xs ys : List ℕ) → keep f (xs ++ ys) ≡ keep f xs ++ keep f ys
 unfolding keep
 keep-append f [] ys = refl

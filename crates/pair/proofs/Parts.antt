@@ -8,10 +8,10 @@ use lib.Dec.{ltb, leb, eqb}
 use native.Mathlib.Omega.{arith}
 use borrow.Author.Tests.{ltb-true, ltb-false, leb-true, leb-false, lt-ltb, le-ltb, le-leb, lt-leb}
 use Rattle.pair.specs.Rising.{Each, keep, above, atMost, within, risingFrom, last}
-use Rattle.pair.proofs.Rising.{rising-head, rising-tail, rising-above, rising-last, rising-take, rising-rest, rising-keep, rises, rises-from, rises-tail}
+use Rattle.pair.proofs.Rising.{rising-head, rising-tail, rising-above, rising-last, rising-take, rising-rest, rising-keep, rising-join, rising-weaker, rises, rises-from, rises-tail, rises-keep, rises-rising}
 use Rattle.pair.proofs.Sets.{has, has-low, has-high, Each-members}
 use Rattle.pair.proofs.Keep.{keep-append, keep-all, keep-none, keep-before, keep-after, keep-swap}
-use Rattle.pair.proofs.Each.{Each-imply, Each-kept}
+use Rattle.pair.proofs.Each.{Each-imply, Each-kept, Each-last}
 
 pub rising-atMost : (xs : List ℕ) (j k : ℕ) → risingFrom j xs ≡ true → risingFrom j (atMost k xs) ≡ true
 unfolding atMost
@@ -28,6 +28,11 @@ above-append k xs ys = keep-append (ltb k) xs ys
 pub atMost-append : (k : ℕ) (xs ys : List ℕ) → atMost k (xs ++ ys) ≡ atMost k xs ++ atMost k ys
 unfolding atMost
 atMost-append k xs ys = keep-append (λ x. leb x k) xs ys
+
+-- a test before or after the part above k
+pub above-keep : (k : ℕ) (f : ℕ → Bool) (xs : List ℕ) → above k (keep f xs) ≡ keep f (above k xs)
+unfolding above
+above-keep k f xs = keep-swap (ltb k) f xs
 
 -- all of a list that rises from k or from above k is above k, and none of it is at most k
 pub above-all : (xs : List ℕ) (k j : ℕ) → k ≤ j → risingFrom j xs ≡ true → above k xs ≡ xs
@@ -135,10 +140,46 @@ pub above-first : (x : ℕ) (xs : List ℕ) (k : ℕ) → risingFrom k (x ∷ xs
 unfolding above keep
 above-first x xs k r = rw (le-ltb x x (omega arith)) (above-all xs x x (omega arith) (rising-tail x xs k r))
 
+-- what is above k, and what is at most k
+pub Each-above : (k : ℕ) (xs : List ℕ) → Each (λ x. k < x) (above k xs)
+unfolding above
+Each-above k xs = Each-imply (λ x. ltb k x ≡ true) (λ x. k < x) (λ x e. ltb-true k x e) (keep (ltb k) xs) (Each-kept (ltb k) xs)
+
+pub Each-atMost : (k : ℕ) (xs : List ℕ) → Each (λ x. x ≤ k) (atMost k xs)
+unfolding atMost
+Each-atMost k xs =
+    Each-imply (λ x. leb x k ≡ true) (λ x. x ≤ k) (λ x e. leb-true x k e) (keep (λ x. leb x k) xs) (Each-kept (λ x. leb x k) xs)
+
+pub rises-above : (k : ℕ) (xs : List ℕ) → rises xs ≡ true → risingFrom k (above k xs) ≡ true
+unfolding above
+rises-above k xs r = rises-rising (above k xs) k (rises-keep (ltb k) xs r) (Each-above k xs)
+
+pub last-atMost : (j k : ℕ) (xs : List ℕ) → j ≤ k → last j (atMost k xs) ≤ k
+last-atMost j k xs h = Each-last (λ x. x ≤ k) (atMost k xs) j h (Each-atMost k xs)
+
+-- a set made of the part of s up to k and the part of t above k
+pub above-joined : (k : ℕ) (s t : List ℕ) → above k (atMost k s ++ above k t) ≡ above k t
+above-joined k s t =
+    above-append k (atMost k s) (above k t)
+    ∙ rw (above-atMost-none k k s (omega arith), above-above k k t (omega arith))
+
+pub atMost-joined : (k : ℕ) (s t : List ℕ) → atMost k (atMost k s ++ above k t) ≡ atMost k s
+atMost-joined k s t =
+    atMost-append k (atMost k s) (above k t)
+    ∙ rw (atMost-atMost k k s (omega arith), atMost-above-none k k t (omega arith)) (append-nil (atMost k s))
+
+pub rising-joined : (j k : ℕ) (s t : List ℕ) → j ≤ k → risingFrom j s ≡ true → rises t ≡ true → risingFrom j (atMost k s ++ above k t) ≡ true
+rising-joined j k s t h r q =
+    rising-join (atMost k s) (above k t) j (rising-atMost s j k r)
+    (rising-weaker (above k t) (last j (atMost k s)) k (last-atMost j k s h) (rises-above k t q))
+
 -- where x is the first above k, the others above k are those above x
-pub above-next : (xs : List ℕ) (j k x : ℕ) (rest : List ℕ) → risingFrom j xs ≡ true → above k xs ≡ x ∷ rest → above x xs ≡ rest
-above-next xs j k x rest r e =
-    let s : risingFrom k (x ∷ rest) ≡ true = rw e at (rising-above xs j k r) in
+pub rises-next : (xs : List ℕ) (k x : ℕ) (rest : List ℕ) → rises xs ≡ true → above k xs ≡ x ∷ rest → above x xs ≡ rest
+rises-next xs k x rest r e =
+    let s : risingFrom k (x ∷ rest) ≡ true = rw e at (rises-above k xs r) in
     let l : k < x = rising-head x rest k s in
     let q : k ≤ x = omega arith in
     sym (above-further k x xs q) ∙ rw e (above-first x rest k s)
+
+pub above-next : (xs : List ℕ) (j k x : ℕ) (rest : List ℕ) → risingFrom j xs ≡ true → above k xs ≡ x ∷ rest → above x xs ≡ rest
+above-next xs j k x rest r e = rises-next xs k x rest (rises-from xs j r) e

@@ -8,7 +8,7 @@ use lib.ListN.{take, drop, take-append-drop}
 use lib.Dec.{ltb, leb, eqb}
 use native.Mathlib.Omega.{arith}
 use borrow.Author.Tests.{ltb-true, ltb-false, eqb-true, eqb-false, lt-ltb}
-use Rattle.pair.specs.Rising.{keep, above, atMost, within, risingFrom, insert, last}
+use Rattle.pair.specs.Rising.{Each, keep, above, atMost, within, risingFrom, insert, last}
 use Rattle.pair.proofs.Tests.{and-left, and-right, and-both}
 
 -- a rising list begins with a number above its start, and goes on rising from there
@@ -140,3 +140,9 @@ rises-insert n (x ∷ xs) r = go (ltb n x) (eqb n x) refl refl
         let l : x ≤ n = ltb-false n x e in
         let d : n ≢ x = eqb-false n x f in
         rising-insert n xs x (omega arith) r
+
+-- a rising list whose elements are above k rises from k
+pub rises-rising : (xs : List ℕ) (k : ℕ) → rises xs ≡ true → Each (λ x. k < x) xs → risingFrom k xs ≡ true
+unfolding rises risingFrom
+rises-rising [] k r a = refl
+rises-rising (x ∷ xs) k r a = rising-cons x xs k (a .0) r

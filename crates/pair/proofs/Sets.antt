@@ -159,3 +159,7 @@ keep-members f g xs h = keep-agree f g xs (Each-members (λ x. f x ≡ g x) xs h
 -- the last element of a list that has one is a member
 pub has-last : (x : ℕ) (xs : List ℕ) (d : ℕ) → has (last d (x ∷ xs)) (x ∷ xs) ≡ true
 has-last x xs d = Each-last-cons (λ y. has y (x ∷ xs) ≡ true) x xs d (Each-members (λ y. has y (x ∷ xs) ≡ true) (x ∷ xs) (λ y h. h))
+
+-- every element of a list that rises from k is above k
+pub rising-Each : (xs : List ℕ) (k : ℕ) → risingFrom k xs ≡ true → Each (λ x. k < x) xs
+rising-Each xs k r = Each-members (λ x. k < x) xs (λ x h. has-low xs x k r h)

@@ -1,0 +1,146 @@
+-- What a batch that is in order is made of.
+use Prim.Native.Nat.{ℕ, zero, suc, _+_, _*_, _%_, _≤_, _<_}
+use mathlib.Core.Path.{_≡_, refl, sym, ap, _∙_}
+use mathlib.Core.Bool.{Bool, true, false, cond, _&&_, _||_, not, false≢true}
+use mathlib.Core.List.{List, [], _∷_, _++_}
+use mathlib.Core.Logic.{_≢_, _⊎_, inl, inr, ⊎-map}
+use lib.ListN.{length, getD}
+use lib.Dec.{ltb, leb, eqb}
+use native.Mathlib.Omega.{arith}
+use borrow.Author.Tests.{ltb-true, ltb-false, eqb-true, eqb-false, not-false, eq-eqb}
+use Rattle.pair.specs.Rank.{rank, Words, Proper}
+use Rattle.pair.specs.Rising.{Each, risingFrom, firstOf}
+use Rattle.pair.proofs.Tests.{and-left, and-right, or-left, or-right, or-cases}
+use Rattle.pair.proofs.Order.{proper-rank, proper-positive}
+use Rattle.pair.proofs.FirstOf.{passed}
+use Rattle.batch.specs.Batch.{Update, updates, anyUpdate, adds, applied, illFormed, falls, batchNumber}
+use Rattle.batch.proofs.Meaning.{added, Each-applied, rising-applied}
+
+-- the facts behind the number 0
+pub record InOrder (b : List ℕ) : Type 0 where
+  pub whole : length b % 4 ≡ 0
+  pub few : length b ≤ 16384
+  pub formed : anyUpdate illFormed (updates b) ≡ false
+  pub ordered : falls 0 (updates b) ≡ false
+
+pub inOrder : (b : List ℕ) → batchNumber b ≡ 0 → InOrder b
+unfolding batchNumber
+inOrder b e =
+    let p = passed (not (eqb (length b % 4) 0)) 5 _ e in
+    let q = passed (ltb (4 * 4096) (length b)) 5 _ (p .1) in
+    let r = passed (anyUpdate illFormed (updates b)) 5 _ (q .1) in
+    let s = passed (falls 0 (updates b)) 6 _ (r .1) in
+    record {
+      whole = eqb-true (length b % 4) 0 (not-false (eqb (length b % 4) 0) (p .0));
+      few = ltb-false 16384 (length b) (q .0);
+      formed = r .0;
+      ordered = s .0;
+    }
+
+-- every update has the property
+abbrev pub EachUpdate : (Update → Type 0) → List Update → Type 0
+EachUpdate P [] = Unit {0}
+EachUpdate P (u ∷ us) = P u × EachUpdate P us
+
+pub EachUpdate-imply : (P Q : Update → Type 0) → ((u : Update) → P u → Q u) → (us : List Update) → EachUpdate P us → EachUpdate Q us
+EachUpdate-imply P Q f [] a = tt
+EachUpdate-imply P Q f (u ∷ us) a = (f u (a .0), EachUpdate-imply P Q f us (a .1))
+
+pub EachUpdate-both : (P Q : Update → Type 0) (us : List Update) → EachUpdate P us → EachUpdate Q us → EachUpdate (λ u. P u × Q u) us
+EachUpdate-both P Q [] a b = tt
+EachUpdate-both P Q (u ∷ us) a b = ((a .0, b .0), EachUpdate-both P Q us (a .1) (b .1))
+
+-- a test that holds of no update fails at each
+pub EachUpdate-none : (f : Update → Bool) (us : List Update) → anyUpdate f us ≡ false → EachUpdate (λ u. f u ≡ false) us
+unfolding anyUpdate
+EachUpdate-none f [] h = tt
+EachUpdate-none f (u ∷ us) h =
+    (or-left (f u) (anyUpdate f us) h, EachUpdate-none f us (or-right (f u) (anyUpdate f us) h))
+
+-- an update that is well formed
+pub record Formed (u : Update) : Type 0 where
+  pub known : (u .kind ≡ 1) ⊎ (u .kind ≡ 2)
+  pub termLow : 1 ≤ u .term
+  pub fromLow : 1 ≤ u .from
+  pub toLow : 1 ≤ u .to
+  pub range : u .from ≤ u .to
+  pub single : u .kind ≡ 1 → u .from ≡ u .to
+
+pub formed-facts : (u : Update) → illFormed u ≡ false → Formed u
+unfolding illFormed
+formed-facts u e =
+    record {
+      known = kinds (not-false (eqb (u .kind) 1 || eqb (u .kind) 2) (search (or-left, or-right)));
+      termLow = low (u .term) (search (or-left, or-right));
+      fromLow = low (u .from) (search (or-left, or-right));
+      toLow = low (u .to) (search (or-left, or-right));
+      range = ltb-false (u .to) (u .from) (search (or-left, or-right));
+      single = alone (search (or-left, or-right));
+    }
+  where
+    low : (n : ℕ) → eqb n 0 ≡ false → 1 ≤ n
+    low n f = let d : n ≢ 0 = eqb-false n 0 f in omega arith
+
+    kinds : (eqb (u .kind) 1 || eqb (u .kind) 2) ≡ true → (u .kind ≡ 1) ⊎ (u .kind ≡ 2)
+    kinds f = ⊎-map (eqb-true (u .kind) 1) (eqb-true (u .kind) 2) (or-cases (eqb (u .kind) 1) (eqb (u .kind) 2) f)
+
+    alone : (eqb (u .kind) 1 && ltb (u .from) (u .to)) ≡ false → u .kind ≡ 1 → u .from ≡ u .to
+    alone f i =
+        let l : u .to ≤ u .from = ltb-false (u .from) (u .to) (rw (eq-eqb (u .kind) 1 i) at f) in
+        let m : u .from ≤ u .to = ltb-false (u .to) (u .from) (search (or-left, or-right)) in
+        omega arith
+
+-- its words are 32-bit words
+pub record OfWords (u : Update) : Type 0 where
+  pub kindWord : u .kind < 4294967296
+  pub termWord : u .term < 4294967296
+  pub fromWord : u .from < 4294967296
+  pub toWord : u .to < 4294967296
+
+pub words-updates : (b : List ℕ) → Words b → EachUpdate OfWords (updates b)
+unfolding updates Words
+words-updates [] w = tt
+words-updates (k ∷ []) w = tt
+words-updates (k ∷ t ∷ []) w = tt
+words-updates (k ∷ t ∷ a ∷ []) w = tt
+words-updates (k ∷ t ∷ a ∷ z ∷ ws) w =
+    (record { kindWord = w 0; termWord = w 1; fromWord = w 2; toWord = w 3 }, words-updates ws (λ i. w (suc (suc (suc (suc i))))))
+
+pub formed-updates : (b : List ℕ) → batchNumber b ≡ 0 → EachUpdate Formed (updates b)
+formed-updates b e =
+    EachUpdate-imply (λ u. illFormed u ≡ false) Formed formed-facts (updates b) (EachUpdate-none illFormed (updates b) (inOrder b e .formed))
+
+-- what holds of the pair of each addition holds of every added pair
+pub added-Each : (P : ℕ → Type 0) (us : List Update) (x : ℕ) → EachUpdate (λ u. u .kind ≡ 1 → P (rank (u .term) (u .from))) us → added us x ≡ true → P x
+unfolding added anyUpdate adds
+added-Each P [] x a h = absurd (false≢true h)
+added-Each P (u ∷ us) x a h = go (or-cases (adds x u) (added us x) h) (added-Each P us x (a .1))
+  where
+    here : ℕ
+    here = rank (u .term) (u .from)
+
+    go : (adds x u ≡ true) ⊎ (added us x ≡ true) → (added us x ≡ true → P x) → P x
+    go (inl e) ih =
+        rw (eqb-true x here (and-right (eqb (u .kind) 1) (eqb x here) e))
+        (a .0 (eqb-true (u .kind) 1 (and-left (eqb (u .kind) 1) (eqb x here) e)))
+    go (inr m) ih = ih m
+
+-- a batch in order adds pairs only
+pub added-positive : (b : List ℕ) → batchNumber b ≡ 0 → (x : ℕ) → added (updates b) x ≡ true → 0 < x
+added-positive b e x h =
+    added-Each (λ y. 0 < y) (updates b) x
+    (EachUpdate-imply Formed (λ u. u .kind ≡ 1 → 0 < rank (u .term) (u .from)) (λ u f i. omega arith) (updates b) (formed-updates b e)) h
+
+pub added-proper : (b : List ℕ) → Words b → batchNumber b ≡ 0 → (x : ℕ) → added (updates b) x ≡ true → Proper x
+added-proper b w e x h =
+    added-Each Proper (updates b) x
+    (EachUpdate-imply (λ u. Formed u × OfWords u) (λ u. u .kind ≡ 1 → Proper (rank (u .term) (u .from)))
+    (λ u f i. proper-rank (u .term) (u .from) (f .0 .termLow) (f .1 .termWord) (f .0 .fromLow) (f .1 .fromWord)) (updates b)
+    (EachUpdate-both Formed OfWords (updates b) (formed-updates b e) (words-updates b w))) h
+
+-- applied to a set of pairs it gives a set of pairs
+pub rising-batch : (b s : List ℕ) → batchNumber b ≡ 0 → risingFrom 0 s ≡ true → risingFrom 0 (applied (updates b) s) ≡ true
+rising-batch b s e r = rising-applied (updates b) s 0 (added-positive b e) r
+
+pub proper-batch : (b s : List ℕ) → Words b → batchNumber b ≡ 0 → Each Proper s → Each Proper (applied (updates b) s)
+proper-batch b s w e a = Each-applied Proper (updates b) s (added-proper b w e) a

@@ -1,0 +1,4 @@
+pub mod InOrder
+pub mod Local
+pub mod Meaning
+pub mod Merge

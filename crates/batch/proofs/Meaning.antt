@@ -1,0 +1,155 @@
+-- What a batch makes of a set: the set less everything removed, plus everything added.
+use Prim.Native.Nat.{ℕ, zero, suc, _≤_, _<_}
+use mathlib.Core.Path.{_≡_, refl, sym, ap, _∙_}
+use mathlib.Core.Bool.{Bool, true, false, cond, _&&_, _||_, not, or-assoc, and-true}
+use mathlib.Core.List.{List, [], _∷_, _++_}
+use mathlib.Core.Logic.{_⊎_, inl, inr}
+use lib.Dec.{ltb, leb, eqb}
+use borrow.Author.Tests.{eq-eqb}
+use Rattle.pair.specs.Rank.{rank}
+use Rattle.pair.specs.Rising.{Each, keep, risingFrom, insert}
+use Rattle.pair.proofs.Tests.{and-both, or-left, or-right, or-intro}
+use Rattle.pair.proofs.Rising.{rises, rises-from, rises-keep, rises-insert, rises-rising}
+use Rattle.pair.proofs.Sets.{has, has-keep, has-insert, rises-ext, rising-Each}
+use Rattle.pair.proofs.Keep.{keep-same, keep-all}
+use Rattle.pair.proofs.Each.{Each-all, Each-keep, Each-insert}
+use Rattle.batch.specs.Batch.{Update, anyUpdate, adds, removes, withdrawn, withAdded, applied}
+
+-- the batch adds the pair
+unfoldable pub added : List Update → ℕ → Bool
+added us x = anyUpdate (adds x) us
+
+-- the batch removes the pair
+unfoldable pub removed : List Update → ℕ → Bool
+removed us x = anyUpdate (removes x) us
+
+-- the members of the set with the added pairs
+pub has-withAdded : (x : ℕ) (us : List Update) (s : List ℕ) → has x (withAdded us s) ≡ (added us x || has x s)
+unfolding withAdded added anyUpdate adds
+has-withAdded x [] s = refl
+has-withAdded x (u ∷ us) s = go (eqb (u .kind) 1) (has-withAdded x us s)
+  where
+    here : ℕ
+    here = rank (u .term) (u .from)
+
+    go : (t : Bool) → has x (withAdded us s) ≡ (added us x || has x s)
+        → has x (cond t (insert here (withAdded us s)) (withAdded us s)) ≡ (((t && eqb x here) || added us x) || has x s)
+    go true ih = has-insert x here (withAdded us s) ∙ rw ih (sym (or-assoc (eqb x here) (added us x) (has x s)))
+    go false ih = ih
+
+-- document 01's sentence for each pair: in the set afterwards are the added ones, and the old ones that are not removed
+pub has-applied : (x : ℕ) (us : List Update) (s : List ℕ) → has x (applied us s) ≡ (added us x || (has x s && not (removed us x)))
+unfolding applied withdrawn added removed
+has-applied x us s =
+    has-keep x (λ y. not (withdrawn us y)) (withAdded us s)
+    ∙ rw (has-withAdded x us s) (table (removed us x) (added us x) (has x s))
+  where
+    table : (r a h : Bool) → (not (r && not a) && (a || h)) ≡ (a || (h && not r))
+    table true true h = refl
+    table true false true = refl
+    table true false false = refl
+    table false true h = refl
+    table false false true = refl
+    table false false false = refl
+
+-- a batch leaves a rising list rising
+pub rises-withAdded : (us : List Update) (s : List ℕ) → rises s ≡ true → rises (withAdded us s) ≡ true
+unfolding withAdded
+rises-withAdded [] s r = r
+rises-withAdded (u ∷ us) s r = go (eqb (u .kind) 1) (rises-withAdded us s r)
+  where
+    go : (t : Bool) → rises (withAdded us s) ≡ true
+        → rises (cond t (insert (rank (u .term) (u .from)) (withAdded us s)) (withAdded us s)) ≡ true
+    go true ih = rises-insert (rank (u .term) (u .from)) (withAdded us s) ih
+    go false ih = ih
+
+pub rises-applied : (us : List Update) (s : List ℕ) → rises s ≡ true → rises (applied us s) ≡ true
+unfolding applied
+rises-applied us s r = rises-keep (λ x. not (withdrawn us x)) (withAdded us s) (rises-withAdded us s r)
+
+-- document 01's sentence for the whole set
+pub applied-sentence : (us : List Update) (s : List ℕ) → rises s ≡ true → applied us s ≡ withAdded us (keep (λ x. not (removed us x)) s)
+applied-sentence us s r =
+    rises-ext (applied us s) (withAdded us rest) (rises-applied us s r)
+    (rises-withAdded us rest (rises-keep (λ x. not (removed us x)) s r)) members
+  where
+    rest : List ℕ
+    rest = keep (λ x. not (removed us x)) s
+
+    swap : (a b : Bool) → (a && b) ≡ (b && a)
+    swap true true = refl
+    swap true false = refl
+    swap false true = refl
+    swap false false = refl
+
+    members : (x : ℕ) → has x (applied us s) ≡ has x (withAdded us rest)
+    members x =
+        has-applied x us s
+        ∙ sym (has-withAdded x us rest ∙ rw (has-keep x (λ y. not (removed us y)) s, swap (not (removed us x)) (has x s)))
+
+-- applied twice is applied once
+pub applied-twice : (us : List Update) (s : List ℕ) → rises s ≡ true → applied us (applied us s) ≡ applied us s
+applied-twice us s r =
+    rises-ext (applied us (applied us s)) (applied us s) (rises-applied us (applied us s) (rises-applied us s r))
+    (rises-applied us s r) members
+  where
+    table : (a h r : Bool) → (a || ((a || (h && not r)) && not r)) ≡ (a || (h && not r))
+    table true h r = refl
+    table false true true = refl
+    table false true false = refl
+    table false false r = refl
+
+    members : (x : ℕ) → has x (applied us (applied us s)) ≡ has x (applied us s)
+    members x = has-applied x us (applied us s) ∙ rw (has-applied x us s) (table (added us x) (has x s) (removed us x))
+
+-- what holds of every added pair and of the set holds of the set afterwards
+pub Each-withAdded : (P : ℕ → Type 0) (us : List Update) (s : List ℕ) → ((x : ℕ) → added us x ≡ true → P x) → Each P s → Each P (withAdded us s)
+unfolding withAdded added anyUpdate adds
+Each-withAdded P [] s f a = a
+Each-withAdded P (u ∷ us) s f a =
+    go (eqb (u .kind) 1) refl (Each-withAdded P us s (λ x h. f x (or-intro (adds x u) (added us x) (inr h))) a)
+  where
+    here : ℕ
+    here = rank (u .term) (u .from)
+
+    go : (t : Bool) → eqb (u .kind) 1 ≡ t → Each P (withAdded us s) → Each P (cond t (insert here (withAdded us s)) (withAdded us s))
+    go true e ih =
+        Each-insert P here (withAdded us s)
+        (f here (or-intro (adds here u) (added us here) (inl (and-both (eqb (u .kind) 1) (eqb here here) e (eq-eqb here here refl))))) ih
+    go false e ih = ih
+
+pub Each-applied : (P : ℕ → Type 0) (us : List Update) (s : List ℕ) → ((x : ℕ) → added us x ≡ true → P x) → Each P s → Each P (applied us s)
+unfolding applied
+Each-applied P us s f a = Each-keep P (λ x. not (withdrawn us x)) (withAdded us s) (Each-withAdded P us s f a)
+
+-- where every added pair is above k, a list that rises from k still does
+pub rising-applied : (us : List Update) (s : List ℕ) (k : ℕ) → ((x : ℕ) → added us x ≡ true → k < x) → risingFrom k s ≡ true → risingFrom k (applied us s) ≡ true
+rising-applied us s k f r =
+    rises-rising (applied us s) k (rises-applied us s (rises-from s k r)) (Each-applied (λ x. k < x) us s f (rising-Each s k r))
+
+-- no update at all changes nothing
+pub applied-none : (s : List ℕ) → applied [] s ≡ s
+unfolding applied withAdded withdrawn anyUpdate
+applied-none s = keep-all (λ x. not (withdrawn [] x)) s (Each-all (λ x. not (withdrawn [] x) ≡ true) (λ x. refl) s)
+
+-- a batch of removals only keeps what it does not remove
+pub withAdded-removals : (us : List Update) (s : List ℕ) → anyUpdate (λ u. eqb (u .kind) 1) us ≡ false → withAdded us s ≡ s
+unfolding withAdded anyUpdate
+withAdded-removals [] s h = refl
+withAdded-removals (u ∷ us) s h =
+    rw (or-left (eqb (u .kind) 1) (anyUpdate (λ v. eqb (v .kind) 1) us) h)
+    (withAdded-removals us s (or-right (eqb (u .kind) 1) (anyUpdate (λ v. eqb (v .kind) 1) us) h))
+
+pub added-removals : (us : List Update) (x : ℕ) → anyUpdate (λ u. eqb (u .kind) 1) us ≡ false → added us x ≡ false
+unfolding added anyUpdate adds
+added-removals [] x h = refl
+added-removals (u ∷ us) x h =
+    rw (or-left (eqb (u .kind) 1) (anyUpdate (λ v. eqb (v .kind) 1) us) h)
+    (added-removals us x (or-right (eqb (u .kind) 1) (anyUpdate (λ v. eqb (v .kind) 1) us) h))
+
+pub applied-removals : (us : List Update) (s : List ℕ) → anyUpdate (λ u. eqb (u .kind) 1) us ≡ false → applied us s ≡ keep (λ x. not (removed us x)) s
+unfolding applied withdrawn added removed
+applied-removals us s h =
+    rw (withAdded-removals us s h)
+    (keep-same (λ x. not (withdrawn us x)) (λ x. not (removed us x))
+    (λ x. rw (added-removals us x h) (ap not (and-true (removed us x)))) s)

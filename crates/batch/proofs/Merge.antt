@@ -1,0 +1,191 @@
+-- The merge of a set with the additions of a batch, one pair after the other.
+use Prim.Native.Nat.{ℕ, zero, suc, min, _≤_, _<_}
+use mathlib.Core.Path.{_≡_, refl, sym, ap, _∙_}
+use mathlib.Core.Bool.{Bool, true, false, cond, _&&_, _||_, not}
+use mathlib.Core.List.{List, [], _∷_, _++_}
+use mathlib.Core.Logic.{_≢_, _⊎_, inl, inr}
+use lib.ListN.{length, getD}
+use lib.Dec.{ltb, leb, eqb}
+use native.Mathlib.Omega.{arith}
+use borrow.Author.Tests.{ltb-true, ltb-false, eqb-true, eqb-false, lt-ltb, le-ltb, eq-eqb, ne-eqb}
+use Rattle.pair.specs.Rank.{rank}
+use Rattle.pair.specs.Rising.{Each, keep, above, risingFrom, insert}
+use Rattle.pair.proofs.Tests.{and-left, and-right, or-left, or-right, compared}
+use Rattle.pair.proofs.Rising.{rises, rises-from, rises-tail}
+use Rattle.pair.proofs.Keep.{keep-cons}
+use Rattle.pair.proofs.Parts.{above-keep, Each-above, rises-next}
+use Rattle.batch.specs.Batch.{Update, withdrawn, withAdded, applied, falls}
+use Rattle.batch.proofs.Meaning.{rises-withAdded}
+
+-- the first element above k, 0 for none
+unfoldable pub firstAbove : ℕ → List ℕ → ℕ
+firstAbove k xs = getD (above k xs) 0 0
+
+-- the lesser of two, where 0 stands for none
+unfoldable pub earlier : ℕ → ℕ → ℕ
+earlier zero b = b
+earlier (suc a) zero = suc a
+earlier (suc a) (suc b) = suc (min a b)
+
+-- the least pair above k that the batch adds, 0 for none
+unfoldable pub leastAdded : ℕ → List Update → ℕ
+leastAdded k [] = 0
+leastAdded k (u ∷ us) =
+    cond (eqb (u .kind) 1 && ltb k (rank (u .term) (u .from))) (earlier (rank (u .term) (u .from)) (leastAdded k us)) (leastAdded k us)
+
+pub earlier-none : (a : ℕ) → earlier a 0 ≡ a
+unfolding earlier
+earlier-none zero = refl
+earlier-none (suc a) = refl
+
+pub earlier-left : (a b : ℕ) → 0 < a → a ≤ b → earlier a b ≡ a
+unfolding earlier
+earlier-left zero b p h = absurd (omega arith)
+earlier-left (suc a) zero p h = refl
+earlier-left (suc a) (suc b) p h = omega arith
+
+pub earlier-right : (a b : ℕ) → 0 < b → b ≤ a → earlier a b ≡ b
+unfolding earlier
+earlier-right zero b p h = refl
+earlier-right (suc a) zero p h = absurd (omega arith)
+earlier-right (suc a) (suc b) p h = omega arith
+
+pub earlier-assoc : (a b c : ℕ) → earlier (earlier a b) c ≡ earlier a (earlier b c)
+unfolding earlier
+earlier-assoc zero b c = refl
+earlier-assoc (suc a) zero c = refl
+earlier-assoc (suc a) (suc b) zero = refl
+earlier-assoc (suc a) (suc b) (suc c) = omega arith
+
+pub firstAbove-cons : (k x : ℕ) (xs : List ℕ) → firstAbove k (x ∷ xs) ≡ cond (ltb k x) x (firstAbove k xs)
+unfolding firstAbove above keep
+firstAbove-cons k x xs = go (ltb k x)
+  where
+    go : (t : Bool) → getD (cond t (x ∷ above k xs) (above k xs)) 0 0 ≡ cond t x (getD (above k xs) 0 0)
+    go true = refl
+    go false = refl
+
+-- the first above k where a number is put in
+pub firstAbove-insert : (xs : List ℕ) (k n : ℕ) → firstAbove k (insert n xs) ≡ cond (ltb k n) (earlier n (firstAbove k xs)) (firstAbove k xs)
+unfolding insert
+firstAbove-insert [] k n = firstAbove-cons k n [] ∙ rw (none k, earlier-none n)
+  where
+    none : (j : ℕ) → firstAbove j [] ≡ 0
+    none j = unfold firstAbove above keep in refl
+firstAbove-insert (x ∷ xs) k n = go (compared n x) (firstAbove-insert xs k n)
+  where
+    Goal : Type 0
+    Goal =
+        firstAbove k (cond (ltb n x) (n ∷ x ∷ xs) (cond (eqb n x) (x ∷ xs) (x ∷ insert n xs)))
+        ≡ cond (ltb k n) (earlier n (firstAbove k (x ∷ xs))) (firstAbove k (x ∷ xs))
+
+    front : n < x → (t : Bool) → ltb k n ≡ t → cond t n (firstAbove k (x ∷ xs)) ≡ cond t (earlier n (firstAbove k (x ∷ xs))) (firstAbove k (x ∷ xs))
+    front l true e =
+        let i : k < n = ltb-true k n e in
+        rw (firstAbove-cons k x xs, lt-ltb k x (omega arith)) (sym (earlier-left n x (omega arith) (omega arith)))
+    front l false e = refl
+
+    same : n ≡ x → (t : Bool) → ltb k n ≡ t → firstAbove k (x ∷ xs) ≡ cond t (earlier n (firstAbove k (x ∷ xs))) (firstAbove k (x ∷ xs))
+    same l true e =
+        let i : k < n = ltb-true k n e in
+        rw (firstAbove-cons k x xs, lt-ltb k x (omega arith)) (sym (earlier-right n x (omega arith) (omega arith)))
+    same l false e = refl
+
+    later : x < n → (t : Bool) → ltb k x ≡ t → firstAbove k (insert n xs) ≡ cond (ltb k n) (earlier n (firstAbove k xs)) (firstAbove k xs)
+        → cond t x (firstAbove k (insert n xs)) ≡ cond (ltb k n) (earlier n (cond t x (firstAbove k xs))) (cond t x (firstAbove k xs))
+    later l true e ih =
+        let i : k < x = ltb-true k x e in
+        rw (lt-ltb k n (omega arith)) (sym (earlier-right n x (omega arith) (omega arith)))
+    later l false e ih = ih
+
+    go : (n < x) ⊎ ((n ≡ x) ⊎ (x < n)) → firstAbove k (insert n xs) ≡ cond (ltb k n) (earlier n (firstAbove k xs)) (firstAbove k xs) → Goal
+    go (inl l) ih = rw (lt-ltb n x l, firstAbove-cons k n (x ∷ xs)) (front l (ltb k n) refl)
+    go (inr (inl l)) ih = rw (le-ltb n x (omega arith), eq-eqb n x l) (same l (ltb k n) refl)
+    go (inr (inr l)) ih =
+        rw (le-ltb n x (omega arith), ne-eqb n x (omega arith), firstAbove-cons k x (insert n xs), firstAbove-cons k x xs)
+        (later l (ltb k x) refl ih)
+
+-- the first above k of the set with the added pairs: the least addition or the first of the set, whichever is earlier
+pub firstAbove-withAdded : (k : ℕ) (us : List Update) (s : List ℕ) → firstAbove k (withAdded us s) ≡ earlier (leastAdded k us) (firstAbove k s)
+unfolding withAdded leastAdded
+firstAbove-withAdded k [] s = unfold earlier in refl
+firstAbove-withAdded k (u ∷ us) s = go (eqb (u .kind) 1) (firstAbove-withAdded k us s)
+  where
+    here : ℕ
+    here = rank (u .term) (u .from)
+
+    put : (t : Bool) → cond t (earlier here (earlier (leastAdded k us) (firstAbove k s))) (earlier (leastAdded k us) (firstAbove k s))
+        ≡ earlier (cond t (earlier here (leastAdded k us)) (leastAdded k us)) (firstAbove k s)
+    put true = sym (earlier-assoc here (leastAdded k us) (firstAbove k s))
+    put false = refl
+
+    go : (t : Bool) → firstAbove k (withAdded us s) ≡ earlier (leastAdded k us) (firstAbove k s)
+        → firstAbove k (cond t (insert here (withAdded us s)) (withAdded us s))
+        ≡ earlier (cond (t && ltb k here) (earlier here (leastAdded k us)) (leastAdded k us)) (firstAbove k s)
+    go true ih = firstAbove-insert (withAdded us s) k here ∙ rw ih (put (ltb k here))
+    go false ih = ih
+
+-- the updates of a batch in order stand rising, so its first addition above k is the least
+pub leastAdded-low : (us : List Update) (x k : ℕ) → falls x us ≡ false → (leastAdded k us ≡ 0) ⊎ (x ≤ leastAdded k us)
+unfolding leastAdded falls
+leastAdded-low [] x k h = inl refl
+leastAdded-low (u ∷ us) x k h =
+    go (eqb (u .kind) 1 && ltb k here) refl
+    (leastAdded-low us here k (or-right (ltb here x) (falls here us) h))
+  where
+    here : ℕ
+    here = rank (u .term) (u .from)
+
+    low : x ≤ here
+    low = ltb-false here x (or-left (ltb here x) (falls here us) h)
+
+    go : (t : Bool) → (eqb (u .kind) 1 && ltb k here) ≡ t → (leastAdded k us ≡ 0) ⊎ (here ≤ leastAdded k us)
+        → (cond t (earlier here (leastAdded k us)) (leastAdded k us) ≡ 0) ⊎ (x ≤ cond t (earlier here (leastAdded k us)) (leastAdded k us))
+    go true e (inl z) = inr (rw (z, earlier-none here) low)
+    go true e (inr l) =
+        let i : k < here = ltb-true k here (and-right (eqb (u .kind) 1) (ltb k here) e) in
+        inr (rw (earlier-left here (leastAdded k us) (omega arith) l) low)
+    go false e (inl z) = inl z
+    go false e (inr l) = inr (omega (arith, low))
+
+pub leastAdded-first : (u : Update) (us : List Update) (k : ℕ) → falls (rank (u .term) (u .from)) us ≡ false
+    → leastAdded k (u ∷ us) ≡ cond (eqb (u .kind) 1 && ltb k (rank (u .term) (u .from))) (rank (u .term) (u .from)) (leastAdded k us)
+unfolding leastAdded
+leastAdded-first u us k h = go (eqb (u .kind) 1 && ltb k here) refl (leastAdded-low us here k h)
+  where
+    here : ℕ
+    here = rank (u .term) (u .from)
+
+    go : (t : Bool) → (eqb (u .kind) 1 && ltb k here) ≡ t → (leastAdded k us ≡ 0) ⊎ (here ≤ leastAdded k us)
+        → cond t (earlier here (leastAdded k us)) (leastAdded k us) ≡ cond t here (leastAdded k us)
+    go true e (inl z) = rw (z, earlier-none here)
+    go true e (inr l) =
+        let i : k < here = ltb-true k here (and-right (eqb (u .kind) 1) (ltb k here) e) in
+        earlier-left here (leastAdded k us) (omega arith) l
+    go false e q = refl
+
+-- one turn of the merge: with x the first above k of the set with the added pairs, the pairs above k of the set afterwards are x, unless
+-- it is withdrawn, and those above x
+pub applied-turn : (k x : ℕ) (us : List Update) (s : List ℕ) → rises s ≡ true → firstAbove k (withAdded us s) ≡ x → 0 < x
+    → above k (applied us s) ≡ cond (not (withdrawn us x)) (x ∷ above x (applied us s)) (above x (applied us s))
+unfolding applied firstAbove
+applied-turn k x us s r e p = go (above k (withAdded us s)) refl e
+  where
+    left : ℕ → Bool
+    left y = not (withdrawn us y)
+
+    go : (ys : List ℕ) → above k (withAdded us s) ≡ ys → getD ys 0 0 ≡ x
+        → above k (keep left (withAdded us s)) ≡ cond (left x) (x ∷ above x (keep left (withAdded us s))) (above x (keep left (withAdded us s)))
+    go [] q f = absurd (omega arith)
+    go (y ∷ ys) q f =
+        above-keep k left (withAdded us s)
+        ∙ rw (above-keep x left (withAdded us s), q, f) (rw (rises-next (withAdded us s) k x ys (rises-withAdded us s r) (rw f at q)) (keep-cons left x ys))
+
+-- its end: with no pair above k in the set with the added pairs, there is none afterwards
+pub applied-end : (k : ℕ) (us : List Update) (s : List ℕ) → firstAbove k (withAdded us s) ≡ 0 → above k (applied us s) ≡ []
+unfolding applied firstAbove
+applied-end k us s e = above-keep k (λ y. not (withdrawn us y)) (withAdded us s) ∙ go (above k (withAdded us s)) (Each-above k (withAdded us s)) e
+  where
+    go : (ys : List ℕ) → Each (λ y. k < y) ys → getD ys 0 0 ≡ 0 → keep (λ y. not (withdrawn us y)) ys ≡ []
+    go [] a f = unfold keep in refl
+    go (y ∷ ys) a f = absurd (omega arith)
