@@ -1,1 +1,2 @@
 pub mod BlocksRead
+pub mod EmptyBatch
