@@ -123,6 +123,7 @@ due-covers b k xs ys h f l s = above-none xs (last 0 (due b (xs ++ ys))) k (risi
   where
     zs : List ℕ
     zs = take (fitting b 0 (xs ++ ys) - length xs) ys
+
     high : last k xs ≤ last 0 (due b (xs ++ ys))
     high =
         rw (last-some (due b (xs ++ ys)) 0 k (due-some b (xs ++ ys) h l), due-append b xs ys f, last-append)

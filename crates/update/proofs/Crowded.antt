@@ -89,16 +89,21 @@ empty-not-crowded c f w =
   where
     g : ℕ → Bool
     g = stays []
+
     k : ℕ
     k = boundary c
+
     room : oldLength c + newLength c < placeCount c
     room = f .room
+
     length-old′ : length (oldPlaces c) ≡ oldLength c
     length-old′ = length-around (placeCount c) _ (oldLength c)
+
     on : (is : List ℕ) → length is ≡ oldLength c → risingFrom 0 (pairsAt c is) ≡ true → 0 < length (Kept g c k is) →
         oldLength c - spent c (Last g c k is) is + (newLength c + 1) < placeCount c
     on [] e r s = absurd (let z : 0 < 0 = rw (kept-none g c k) at s in omega arith)
     on (i ∷ is) e r s = omega (arith, room, whole-spent g c k w (omega (arith, f .sizeLow)) i is 0 stays-all r s)
+
     ends : (is : List ℕ) → length is ≡ oldLength c → newLength c + cond (eqb (length (Kept g c k is)) 0) 0 1 < placeCount c
     ends [] e = rw (kept-none g c k) (omega (arith, room))
     ends (i ∷ is) e = omega (arith, room, at-most-one (eqb (length (Kept g c k (i ∷ is))) 0))

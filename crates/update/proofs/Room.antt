@@ -55,8 +55,13 @@ kept-cons g c k i is = rw (above-append, keep-append)
 kept-size : (g : ℕ → Bool) (c : List ℕ) (k i : ℕ) → Words c → size 0 (keep g (above k (pairs (place c i)))) ≤ blockSize c
 unfolding above place
 kept-size g c k i w =
-    omega (arith, size-keep g 0 (keep (ltb k) (pairs (place c i))), size-keep (ltb k) 0 (pairs (place c i)),
-    block-size (place c i) (place-words c i w), length-take (blockSize c) (drop (placeAt entryWidth c i) c))
+    omega (
+      arith,
+      size-keep g 0 (keep (ltb k) (pairs (place c i))),
+      size-keep (ltb k) 0 (pairs (place c i)),
+      block-size (place c i) (place-words c i w),
+      length-take (blockSize c) (drop (placeAt entryWidth c i) c),
+    )
 
 -- nothing is kept of the first of the places above k
 abbrev pub FirstDone : (ℕ → Bool) → List ℕ → ℕ → List ℕ → Type 0
@@ -102,7 +107,7 @@ module _ (g : ℕ → Bool) (c : List ℕ) (k : ℕ) (w : Words c) (low : 3 ≤ 
       let p : List ℕ = pairs (place c i) in
       let rest : Kept g c k (i ∷ is) ≡ Kept g c k is = rw (kept-cons g c k i is, e) in
       let rises : risingFrom (last j p) (Kept g c k is) ≡ true
-          = rising-keep g (above k (pairsAt c is)) (last j p) (rising-keep (ltb k) (pairsAt c is) (last j p) (rising-second p (pairsAt c is) j r)) in
+      = rising-keep g (above k (pairsAt c is)) (last j p) (rising-keep (ltb k) (pairsAt c is) (last j p) (rising-second p (pairsAt c is) j r)) in
       above-none p (Last g c k (i ∷ is)) j (rising-first p (pairsAt c is) j r)
       (rw rest (due-high (blockSize c) (last j p) (Kept g c k is) low (rw rest at s) rises))
 
@@ -131,7 +136,7 @@ module _ (g : ℕ → Bool) (c : List ℕ) (k : ℕ) (w : Words c) (low : 3 ≤ 
   whole-spent i is j a r s =
       let k : ℕ = Last g c k (i ∷ is) in
       let none : above k (pairs (place c i)) ≡ []
-          = rw (keep-all g (above k (pairs (place c i))) (Each-all _ a (above k (pairs (place c i))))) at (first-moves i is j r s) in
+      = rw (keep-all g (above k (pairs (place c i))) (Each-all _ a (above k (pairs (place c i))))) at (first-moves i is j r s) in
       rw (any-none (ltb k) (pairs (place c i)) none) (omega arith)
 
   -- a write that goes on leaves a place free, and Room again
