@@ -6,3 +6,4 @@ pub mod Configured
 pub mod Grown
 pub mod Settled
 pub mod Spent
+pub mod Roomy

@@ -19,6 +19,7 @@ use Rattle.block.proofs.Due.{due-high, due-covers}
 use Rattle.card.specs.Layout.{blockSize, entryWidth, placeAt, place, pairsAt}
 use Rattle.card.proofs.Live.{place-words}
 use Rattle.update.specs.Step.{spent}
+use Rattle.update.proofs.Spent.{spent-length}
 
 -- what the test keeps of the pairs at the places above k
 abbrev pub Kept : (ℕ → Bool) → List ℕ → ℕ → List ℕ → List ℕ
@@ -71,15 +72,6 @@ FirstDone g c k (i ∷ is) = keep g (above k (pairs (place c i))) ≡ []
 -- of m places those after the places is and n others: two are free, or one, and nothing is kept of the first of is
 abbrev pub Room : (ℕ → Bool) → List ℕ → ℕ → List ℕ → ℕ → ℕ → Type 0
 Room g c k is n m = (length is + n + 2 ≤ m) ⊎ FirstDone g c k is
-
-spent-length : (c : List ℕ) (k : ℕ) (is : List ℕ) → spent c k is ≤ length is
-unfolding spent
-spent-length c k [] = omega arith
-spent-length c k (i ∷ is) = go (any (ltb k) (pairs (place c i))) (spent-length c k is)
-  where
-    go : (s : Bool) → spent c k is ≤ length is → cond s 0 (suc (spent c k is)) ≤ suc (length is)
-    go true ih = omega arith
-    go false ih = omega arith
 
 pub at-most-one : (s : Bool) → cond s 0 1 ≤ 1
 at-most-one true = omega arith
