@@ -4,29 +4,18 @@ use native.Mathlib.Omega.{arith}
 use mathlib.Core.Path.{_≡_, refl, sym, _∙_, ap}
 use mathlib.Core.Bool.{Bool, true, false, cond, _&&_, not}
 use mathlib.Core.List.{List, [], _∷_, _++_}
-use lib.ListN.{length, take, drop, getD, length-append, length-take, length-drop, take-append-drop}
+use lib.ListN.{length, take, drop, getD, length-append, length-take, length-drop, take-append-drop, drop-of-length-le}
 use lib.Seq.{length-take-le, take-all, take-append-add}
 use lib.Dec.{ltb, leb, eqb}
 use borrow.Author.Tests.{ltb-true, ltb-false, lt-ltb, le-ltb, le-leb}
 use Rattle.pair.specs.Rank.{rank, term, position, Words, Proper}
-use Rattle.pair.specs.Rising.{Each, keep, risingFrom}
-use Rattle.pair.proofs.Tests.{and-left, and-right, and-both}
+use Rattle.pair.specs.Rising.{Each, above, risingFrom, last}
+use Rattle.pair.proofs.Each.{Each-take}
+use Rattle.pair.proofs.Rising.{rising-take, rising-first, rising-second, rising-last, last-append}
+use Rattle.pair.proofs.Parts.{above-none}
 use Rattle.block.specs.Block.{pairs, formed, packed, blockOf, cost, fitting, due, goesOn}
-use Rattle.block.proofs.Size.{size, size-packed, size-fitting, size-keep, block-size, fitting-longest, fitting-whole, fitting-length}
+use Rattle.block.proofs.Size.{size, size-packed, size-fitting, fitting-longest, fitting-whole, fitting-length}
 use Rattle.block.proofs.Packing.{pairs-blockOf, length-blockOf, formed-blockOf, words-blockOf}
-
-each-take : (P : ℕ → Type 0) (n : ℕ) (xs : List ℕ) → Each P xs → Each P (take n xs)
-each-take P zero xs h = tt
-each-take P (suc n) [] h = tt
-each-take P (suc n) (x ∷ xs) (h, hs) = (h, each-take P n xs hs)
-
-rising-take : (k n : ℕ) (xs : List ℕ) → risingFrom k xs ≡ true → risingFrom k (take n xs) ≡ true
-unfolding risingFrom
-rising-take k zero xs h = refl
-rising-take k (suc n) [] h = refl
-rising-take k (suc n) (x ∷ xs) h =
-    and-both (ltb k x) (risingFrom x (take n xs)) (and-left (ltb k x) (risingFrom x xs) h)
-    (rising-take x n xs (and-right (ltb k x) (risingFrom x xs) h))
 
 -- the due pairs cost at most b words
 pub due-size : (b : ℕ) (r : List ℕ) → size 0 (due b r) ≤ b
@@ -62,6 +51,10 @@ fitting-some b (k ∷ ks) h l = rw (le-leb (cost 0 k) b (go (eqb (term k) 0))) (
 pub due-some : (b : ℕ) (r : List ℕ) → 3 ≤ b → 0 < length r → 0 < length (due b r)
 due-some b r h l = rw (length-due b r) (fitting-some b r h l)
 
+pub goesOn-some : (b : ℕ) (r : List ℕ) → goesOn b r ≡ true → 0 < length r
+unfolding goesOn
+goesOn-some b r g = omega (arith, ltb-true (fitting b 0 r) (length r) g)
+
 -- pairs beyond the due ones
 pub goesOn-rest : (b : ℕ) (r : List ℕ) → goesOn b r ≡ true → 0 < length (drop (fitting b 0 r) r)
 unfolding goesOn
@@ -72,18 +65,22 @@ unfolding goesOn
 rest-goesOn b r l =
     lt-ltb (fitting b 0 r) (length r) (let h : 0 < length r - fitting b 0 r = rw (length-drop (fitting b 0 r) r) at l in omega arith)
 
--- without such pairs everything is due
+-- without such pairs nothing is left beyond, and everything is due
+pub goesOn-none : (b : ℕ) (r : List ℕ) → goesOn b r ≡ false → drop (fitting b 0 r) r ≡ []
+unfolding goesOn
+goesOn-none b r g = drop-of-length-le r (ltb-false (fitting b 0 r) (length r) g)
+
 pub due-whole : (b : ℕ) (r : List ℕ) → goesOn b r ≡ false → due b r ≡ r
 unfolding goesOn due
 due-whole b r g = take-all (fitting b 0 r) r (ltb-false (fitting b 0 r) (length r) g)
 
 pub proper-due : (b : ℕ) (r : List ℕ) → Each Proper r → Each Proper (due b r)
 unfolding due
-proper-due b r h = each-take Proper (fitting b 0 r) r h
+proper-due b r h = Each-take Proper (fitting b 0 r) r h
 
 pub rising-due : (b k : ℕ) (r : List ℕ) → risingFrom k r ≡ true → risingFrom k (due b r) ≡ true
 unfolding due
-rising-due b k r h = rising-take k (fitting b 0 r) r h
+rising-due b k r h = rising-take (fitting b 0 r) r k h
 
 -- the due block fits its place
 pub length-dueBlock : (b : ℕ) (r : List ℕ) → length (blockOf b (due b r)) ≡ b
@@ -109,9 +106,25 @@ due-append b xs ys h =
     let split : fitting b 0 (xs ++ ys) ≡ length xs + (fitting b 0 (xs ++ ys) - length xs) = omega arith in
     ap (λ n. take n (xs ++ ys)) split ∙ take-append-add xs ys (fitting b 0 (xs ++ ys) - length xs)
 
--- what removals leave of a block's pairs is all due, whatever follows it
-pub due-kept : (f : ℕ → Bool) (ws rest : List ℕ) → Words ws →
-    due (length ws) (keep f (pairs ws) ++ rest)
-    ≡ keep f (pairs ws) ++ take (fitting (length ws) 0 (keep f (pairs ws) ++ rest) - length (keep f (pairs ws))) rest
-due-kept f ws rest w =
-    due-append (length ws) (keep f (pairs ws)) rest (omega (arith, size-keep f 0 (pairs ws), block-size ws w))
+-- the last of a list with an element is the same whatever stands for none
+pub last-some : (ks : List ℕ) (d e : ℕ) → 0 < length ks → last d ks ≡ last e ks
+unfolding last
+last-some [] d e h = absurd (omega arith)
+last-some (k ∷ ks) d e h = refl
+
+-- the last due pair lies above where what remains starts
+pub due-high : (b k : ℕ) (r : List ℕ) → 3 ≤ b → 0 < length r → risingFrom k r ≡ true → k ≤ last 0 (due b r)
+due-high b k r h l s = rw (last-some (due b r) 0 k (due-some b r h l)) (rising-last (due b r) k (rising-due b k r s))
+
+-- of pairs that fit none lies above the last due pair, whatever follows them
+pub due-covers : (b k : ℕ) (xs ys : List ℕ) → 3 ≤ b → size 0 xs ≤ b → 0 < length (xs ++ ys) → risingFrom k (xs ++ ys) ≡ true →
+    above (last 0 (due b (xs ++ ys))) xs ≡ []
+due-covers b k xs ys h f l s = above-none xs (last 0 (due b (xs ++ ys))) k (rising-first xs ys k s) high
+  where
+    zs : List ℕ
+    zs = take (fitting b 0 (xs ++ ys) - length xs) ys
+
+    high : last k xs ≤ last 0 (due b (xs ++ ys))
+    high =
+        rw (last-some (due b (xs ++ ys)) 0 k (due-some b (xs ++ ys) h l), due-append b xs ys f, last-append)
+        (rising-last zs (last k xs) (rising-second xs zs k (rw (due-append b xs ys f) at (rising-due b k (xs ++ ys) s))))

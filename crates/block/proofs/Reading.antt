@@ -10,6 +10,7 @@ use borrow.Author.Tests.{ltb-true, lt-ltb, eqb-true, eqb-false, not-true}
 use Rattle.pair.specs.Rank.{rank, term, position, Words, Proper}
 use Rattle.pair.specs.Rising.{Each, risingFrom}
 use Rattle.pair.proofs.Order.{proper-rank}
+use Rattle.pair.proofs.Rising.{rising-weaker}
 use Rattle.pair.proofs.Tests.{and-left, and-right, and-both, contradiction}
 use Rattle.block.specs.Block.{zeros, pairsFrom, pairs, formedFrom, formed}
 
@@ -37,13 +38,6 @@ formedFrom-proper (a ∷ b ∷ q ∷ ws) t zero p w h g f =
         ih (λ l. let n : (a ≡ 0 → ⊥) = eqb-false a 0 e in omega arith)
         (and-right (ltb t a && ltb 0 b) (formedFrom (q ∷ ws) a b 0) f)
 
-rising-from-lower : (j k : ℕ) (xs : List ℕ) → j ≤ k → risingFrom k xs ≡ true → risingFrom j xs ≡ true
-unfolding risingFrom
-rising-from-lower j k [] h r = refl
-rising-from-lower j k (x ∷ xs) h r =
-    let less : k < x = ltb-true k x (and-left (ltb k x) (risingFrom x xs) r) in
-    and-both (ltb j x) (risingFrom x xs) (lt-ltb j x (omega arith)) (and-right (ltb k x) (risingFrom x xs) r)
-
 formedFrom-rising : (ws : List ℕ) (t n p : ℕ) → Words ws → p < 4294967296 → formedFrom ws t n p ≡ true →
     risingFrom (rank t p) (pairsFrom ws t n) ≡ true
 unfolding formedFrom pairsFrom Words risingFrom
@@ -65,7 +59,7 @@ formedFrom-rising (a ∷ b ∷ q ∷ ws) t zero p w h f =
     go ih false f =
         let tests : (ltb t a && ltb 0 b) ≡ true = and-left (ltb t a && ltb 0 b) (formedFrom (q ∷ ws) a b 0) f in
         let less : t < a = ltb-true t a (and-left (ltb t a) (ltb 0 b) tests) in
-        rising-from-lower (rank t p) (rank a 0) (pairsFrom (q ∷ ws) a b) (omega arith)
+        rising-weaker (pairsFrom (q ∷ ws) a b) (rank t p) (rank a 0) (omega arith)
         (ih (and-right (ltb t a && ltb 0 b) (formedFrom (q ∷ ws) a b 0) f))
 
 -- a live block of 32-bit words reads as pairs

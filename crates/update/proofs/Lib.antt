@@ -1,8 +1,12 @@
+pub mod Blocks
 pub mod Configuration
 pub mod Configured
+pub mod Crowded
 pub mod Frame
 pub mod Grown
 pub mod Next
+pub mod Room
+pub mod Roomy
 pub mod Settled
 pub mod Spent
 pub mod Steps
