@@ -1,4 +1,6 @@
+pub mod Answers
 pub mod BlocksRead
+pub mod Demand3
 pub mod EmptyBatch
 pub mod Events
 pub mod Keeping
