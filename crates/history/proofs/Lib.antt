@@ -4,4 +4,5 @@ pub mod Demand3
 pub mod EmptyBatch
 pub mod Events
 pub mod Keeping
+pub mod Kept
 pub mod Landed
