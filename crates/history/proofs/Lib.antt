@@ -1,2 +1,3 @@
 pub mod BlocksRead
 pub mod EmptyBatch
+pub mod Sharp
