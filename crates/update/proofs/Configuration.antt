@@ -29,7 +29,7 @@ use Rattle.update.proofs.Spent.{spent-length, spent-reaches, above-spen
 ruleset tests = (and-left, and-right)
 
 -- The last of some numbers is one of them.
-last-some : (xs : List ℕ) (a b : ℕ) → 0 < length xs → last a xs ≡ last b xs
+pub last-some : (xs : List ℕ) (a b : ℕ) → 0 < length xs → last a xs ≡ last b xs
 unfolding last
 last-some [] a b h = absurd (let z : ⊥ = omega arith in z)
 last-some (x ∷ xs) a b h = refl
@@ -72,7 +72,7 @@ module _ (c r : List ℕ) (f : Facts c) (m : Remaining c r) (ready : 0 < length 
     abbrev gone : ℕ
     gone = spent c mark (oldPlaces c)
 
-    some : 0 < length (due (blockSize c) r)
+    pub some : 0 < length (due (blockSize c) r)
     some = due-some (blockSize c) r (omega (arith, f .sizeLow)) (goesOn-some (blockSize c) r on)
 
     pub nextBoundary-on : nextBoundary c r ≡ mark

@@ -3,7 +3,11 @@ pub mod Room
 pub mod Crowded
 pub mod Configuration
 pub mod Configured
+pub mod Frame
 pub mod Grown
+pub mod Next
 pub mod Settled
 pub mod Spent
 pub mod Roomy
+pub mod Steps
+pub mod Writes
