@@ -1,3 +1,4 @@
 pub mod BlocksRead
 pub mod EmptyBatch
 pub mod Sharp
+pub mod Landed

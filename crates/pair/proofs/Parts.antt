@@ -158,15 +158,20 @@ pub last-atMost : (j k : ℕ) (xs : List ℕ) → j ≤ k → last j (atMost k x
 last-atMost j k xs h = Each-last (λ x. x ≤ k) (atMost k xs) j h (Each-atMost k xs)
 
 -- a set made of the part of s up to k and the part of t above k
+pub above-joined-further : (j k : ℕ) (s t : List ℕ) → k ≤ j → above j (atMost k s ++ above k t) ≡ above j t
+above-joined-further j k s t h =
+    above-append j (atMost k s) (above k t) ∙ rw (above-atMost-none k j s h, above-further k j t h)
+
+pub atMost-joined-nearer : (j k : ℕ) (s t : List ℕ) → j ≤ k → atMost j (atMost k s ++ above k t) ≡ atMost j s
+atMost-joined-nearer j k s t h =
+    atMost-append j (atMost k s) (above k t)
+    ∙ rw (atMost-nearer j k s h, atMost-above-none j k t h) (append-nil (atMost j s))
+
 pub above-joined : (k : ℕ) (s t : List ℕ) → above k (atMost k s ++ above k t) ≡ above k t
-above-joined k s t =
-    above-append k (atMost k s) (above k t)
-    ∙ rw (above-atMost-none k k s (omega arith), above-above k k t (omega arith))
+above-joined k s t = above-joined-further k k s t (omega arith)
 
 pub atMost-joined : (k : ℕ) (s t : List ℕ) → atMost k (atMost k s ++ above k t) ≡ atMost k s
-atMost-joined k s t =
-    atMost-append k (atMost k s) (above k t)
-    ∙ rw (atMost-atMost k k s (omega arith), atMost-above-none k k t (omega arith)) (append-nil (atMost k s))
+atMost-joined k s t = atMost-joined-nearer k k s t (omega arith)
 
 pub rising-joined : (j k : ℕ) (s t : List ℕ) → j ≤ k → risingFrom j s ≡ true → rises t ≡ true → risingFrom j (atMost k s ++ above k t) ≡ true
 rising-joined j k s t h r q =

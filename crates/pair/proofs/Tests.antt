@@ -62,6 +62,11 @@ pub cond-same {ℓ} : {A : Type ℓ} (t : Bool) (x : A) → cond t x x ≡ x
 cond-same true x = refl
 cond-same false x = refl
 
+-- what holds of both sides of a choice holds of the choice
+pub cond-both {ℓ} : {A : Type ℓ} (P : A → Type 0) (t : Bool) (x y : A) → (t ≡ true → P x) → (t ≡ false → P y) → P (cond t x y)
+cond-both P true x y f g = f refl
+cond-both P false x y f g = g refl
+
 -- the tests of two pairs of numbers agree where the facts do
 pub ltb-agree : (a b c d : ℕ) → (a < b → c < d) → (c < d → a < b) → ltb a b ≡ ltb c d
 ltb-agree a b c d f g = test-ext (ltb a b) (ltb c d) (λ e. lt-ltb c d (f (ltb-true a b e))) (λ e. lt-ltb a b (g (ltb-true c d e)))
