@@ -2,3 +2,4 @@ pub mod BlocksRead
 pub mod EmptyBatch
 pub mod Sharp
 pub mod Landed
+pub mod PassEnds

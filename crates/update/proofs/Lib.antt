@@ -11,3 +11,4 @@ pub mod Spent
 pub mod Roomy
 pub mod Steps
 pub mod Writes
+pub mod Ends
