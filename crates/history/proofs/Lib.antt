@@ -3,3 +3,5 @@ pub mod EmptyBatch
 pub mod Sharp
 pub mod Landed
 pub mod PassEnds
+pub mod Keeping
+pub mod Landed

@@ -6,7 +6,7 @@ use mathlib.Core.List.{List, [], _∷_, _++_, append-nil, append-assoc}
 use native.Mathlib.Omega.{arith}
 use lib.ListN.{length, take, drop, getD, take-append-drop}
 use lib.Dec.{ltb, leb, eqb}
-use borrow.Author.Tests.{ltb-true, leb-false, eqb-false, ne-eqb, lt-ltb}
+use borrow.Author.Tests.{leb-false, eqb-false, ne-eqb, lt-ltb}
 use Rattle.pair.specs.Rank.{term, position, Words, Proper}
 use Rattle.pair.specs.Rising.{Each, above, atMost, risingFrom, last, any}
 use Rattle.pair.proofs.Tests.{and-left, and-right}
@@ -15,7 +15,7 @@ use Rattle.pair.proofs.Rising.{rising-head, rising-first, rising-second, rising
 use Rattle.pair.proofs.Parts.{above-all, above-further}
 use Rattle.block.specs.Block.{pairs, formed, due, goesOn, fitting}
 use Rattle.block.proofs.Reading.{formed-some}
-use Rattle.block.proofs.Due.{due-some, due-whole, proper-due, rising-due}
+use Rattle.block.proofs.Due.{goesOn-some, due-some, due-whole, proper-due, rising-due}
 use Rattle.card.specs.Layout.{word, blockSize, placeCount, oldStart, oldLength, newLength, boundary, place, around, oldPlaces, newPlaces, pairsAt, live}
 use Rattle.card.specs.Sound.{blocksSound, firstReaches, judged}
 use Rattle.card.proofs.Circle.{around-drop, length-around}
@@ -56,10 +56,6 @@ sound-reaches c (i ∷ is) s h = go (pairs (place c i)) (formed-some (place c i)
     go : (xs : List ℕ) → 0 < length xs → risingFrom 0 xs ≡ true → any (ltb 0) xs ≡ true
     go [] l h = absurd (let z : ⊥ = omega arith in z)
     go (x ∷ xs) l h = rw (lt-ltb 0 x (rising-head x xs 0 h))
-
-pub goesOn-some : (b : ℕ) (r : List ℕ) → goesOn b r ≡ true → 0 < length r
-unfolding goesOn
-goesOn-some b r e = omega (arith, ltb-true (fitting b 0 r) (length r) e)
 
 module _ (c r : List ℕ) (f : Facts c) (m : Remaining c r) (ready : 0 < length r → Ready c r) where
   grows : Grown c r

@@ -1,11 +1,12 @@
 pub mod Blocks
-pub mod Room
-pub mod Crowded
 pub mod Configuration
 pub mod Configured
+pub mod Crowded
 pub mod Frame
 pub mod Grown
 pub mod Next
+pub mod Room
+pub mod Roomy
 pub mod Settled
 pub mod Spent
 pub mod Roomy
