@@ -1,4 +1,6 @@
 pub mod Due
 pub mod Packing
 pub mod Reading
+pub mod Scanning
 pub mod Size
+pub mod Walk

@@ -13,8 +13,8 @@ use Rattle.pair.specs.Rising.{Each, above, atMost, risingFrom, last}
 use Rattle.pair.proofs.Tests.{cond-both}
 use Rattle.pair.proofs.Rising.{rises, rises-from, rising-weaker, rising-head, rising-tail, rising-last, rising-take}
 use Rattle.pair.proofs.Sets.{has, has-low, has-last}
-use Rattle.pair.proofs.Each.{Each-append, Each-keep, Each-take, Each-last-cons}
-use Rattle.pair.proofs.Parts.{parts, rises-parts, rising-atMost, above-append, atMost-append, above-above, above-further, atMost-atMost, atMost-nearer, above-atMost, above-atMost-none, above-take, atMost-take, rises-above, above-joined, atMost-joined, atMost-joined-nearer, rising-joined}
+use Rattle.pair.proofs.Each.{Each-append, Each-imply, Each-take, Each-last}
+use Rattle.pair.proofs.Parts.{parts, rises-parts, rising-atMost, above-append, atMost-append, above-above, above-further, atMost-atMost, atMost-nearer, above-atMost, above-atMost-none, above-take, atMost-take, rises-above, above-joined, atMost-joined, atMost-joined-nearer, rising-joined, above-Each, atMost-Each}
 use Rattle.block.specs.Block.{cost, fitting, due, goesOn}
 use Rattle.batch.specs.Batch.{Update, updates, applied, batchNumber}
 use Rattle.batch.proofs.Meaning.{rises-applied}
@@ -164,3 +164,54 @@ pub landed-finishes : (b : List ℕ) (h : History) → risingFrom 0 (h .pairs) �
 landed-finishes b h r g =
     rw (landed-end b h (rises-from (h .pairs) 0 r) g)
     (refl, atMost-target b h, above-target b h)
+
+-- what remains after a write that goes on is what stood beyond the due block
+pub toWrite-landed : (b : List ℕ) (h : History) → 3 ≤ h .size → risingFrom 0 (h .pairs) ≡ true → goesOn (h .size) (toWrite b h) ≡ true
+    → toWrite b (landed b h) ≡ drop (fitting (h .size) 0 (toWrite b h)) (toWrite b h)
+unfolding toWrite
+toWrite-landed b h z r g =
+    rw (landed-on b h s z g)
+    (above-applied (reach b h) (updates b) _ (h .pairs) (rises-from _ 0 joined) s (above-joined (reach b h) (target b h) (h .pairs))
+    ∙ (sym (above-further (h .mark) (reach b h) (applied (updates b) (h .pairs)) low) ∙ beyond-reach b h s))
+  where
+    s : rises (h .pairs) ≡ true
+    s = rises-from (h .pairs) 0 r
+
+    joined : risingFrom 0 (atMost (reach b h) (target b h) ++ above (reach b h) (h .pairs)) ≡ true
+    joined = rising-joined 0 (reach b h) (target b h) (h .pairs) (omega arith) (rising-target b h r) s
+
+    low : h .mark ≤ reach b h
+    low = let l : h .mark < reach b h = mark-rises b h s z g in omega arith
+
+-- a configuration write leaves pairs, and a pair for a mark, or none
+pub proper-toWrite : (b : List ℕ) (h : History) → Words b → batchNumber b ≡ 0 → Each Proper (h .pairs) → Each Proper (toWrite b h)
+unfolding toWrite
+proper-toWrite b h w o a =
+    above-Each Proper (h .mark) (applied (updates b) (h .pairs)) (proper-batch b (h .pairs) w o a)
+
+pub proper-next : (b : List ℕ) (h : History) → Words b → batchNumber b ≡ 0 → Each Proper (h .pairs) → Each Proper (next b h)
+unfolding next due
+proper-next b h w o a = Each-take Proper (fitting (h .size) 0 (toWrite b h)) (toWrite b h) (proper-toWrite b h w o a)
+
+pub proper-landed : (b : List ℕ) (h : History) → Words b → batchNumber b ≡ 0 → Each Proper (h .pairs) → Each Proper (landed b h .pairs)
+unfolding landed
+proper-landed b h w o a =
+    cond-both (λ (g : History). Each Proper (g .pairs)) (goesOn (h .size) (toWrite b h)) _ _
+    (λ e.
+    Each-append Proper (atMost (h .mark) (h .pairs)) (next b h ++ above (last 0 (next b h)) (h .pairs)) below
+    (Each-append Proper (next b h) (above (last 0 (next b h)) (h .pairs)) (proper-next b h w o a)
+    (above-Each Proper (last 0 (next b h)) (h .pairs) a)))
+    (λ e. Each-append Proper (atMost (h .mark) (h .pairs)) (toWrite b h) below (proper-toWrite b h w o a))
+  where
+    below : Each Proper (atMost (h .mark) (h .pairs))
+    below = atMost-Each Proper (h .mark) (h .pairs) a
+
+pub mark-landed : (b : List ℕ) (h : History) → Words b → batchNumber b ≡ 0 → Each Proper (h .pairs)
+    → (landed b h .mark ≡ 0) ⊎ Proper (landed b h .mark)
+unfolding landed
+mark-landed b h w o a =
+    cond-both (λ (g : History). (g .mark ≡ 0) ⊎ Proper (g .mark)) (goesOn (h .size) (toWrite b h)) _ _
+    (λ e.
+    Each-last (λ x. (x ≡ 0) ⊎ Proper x) (next b h) 0 (inl refl)
+    (Each-imply Proper (λ x. (x ≡ 0) ⊎ Proper x) (λ x p. inr p) (next b h) (proper-next b h w o a)))
+    (λ e. inl refl)

@@ -4,4 +4,5 @@ pub mod Sharp
 pub mod Landed
 pub mod PassEnds
 pub mod Keeping
+pub mod Kept
 pub mod Landed

@@ -11,7 +11,7 @@ use Rattle.pair.specs.Rising.{Each, keep, above, atMost, within, risingF
 use Rattle.pair.proofs.Rising.{rising-head, rising-tail, rising-above, rising-last, rising-take, rising-rest, rising-keep, rising-join, rising-weaker, rises, rises-from, rises-tail, rises-keep, rises-rising}
 use Rattle.pair.proofs.Sets.{has, has-low, has-high, Each-members}
 use Rattle.pair.proofs.Keep.{keep-append, keep-all, keep-none, keep-before, keep-after, keep-swap}
-use Rattle.pair.proofs.Each.{Each-imply, Each-kept, Each-last}
+use Rattle.pair.proofs.Each.{Each-imply, Each-keep, Each-kept, Each-last}
 
 pub rising-atMost : (xs : List ℕ) (j k : ℕ) → risingFrom j xs ≡ true → risingFrom j (atMost k xs) ≡ true
 unfolding atMost
@@ -149,6 +149,15 @@ pub Each-atMost : (k : ℕ) (xs : List ℕ) → Each (λ x. x ≤ k) (atMost k x
 unfolding atMost
 Each-atMost k xs =
     Each-imply (λ x. leb x k ≡ true) (λ x. x ≤ k) (λ x e. leb-true x k e) (keep (λ x. leb x k) xs) (Each-kept (λ x. leb x k) xs)
+
+-- what holds of every element holds of those above k and of those up to k
+pub above-Each : (P : ℕ → Type 0) (k : ℕ) (xs : List ℕ) → Each P xs → Each P (above k xs)
+unfolding above
+above-Each P k xs a = Each-keep P (ltb k) xs a
+
+pub atMost-Each : (P : ℕ → Type 0) (k : ℕ) (xs : List ℕ) → Each P xs → Each P (atMost k xs)
+unfolding atMost
+atMost-Each P k xs a = Each-keep P (λ x. leb x k) xs a
 
 pub rises-above : (k : ℕ) (xs : List ℕ) → rises xs ≡ true → risingFrom k (above k xs) ≡ true
 unfolding above
