@@ -2,6 +2,7 @@ pub mod Blocks
 pub mod Configuration
 pub mod Configured
 pub mod Crowded
+pub mod Ends
 pub mod Frame
 pub mod Grown
 pub mod Next
@@ -9,7 +10,5 @@ pub mod Room
 pub mod Roomy
 pub mod Settled
 pub mod Spent
-pub mod Roomy
 pub mod Steps
 pub mod Writes
-pub mod Ends
