@@ -6,7 +6,8 @@ use Rattle.pair.specs.Rank.{Words}
 use Rattle.pair.specs.Rising.{firstOf}
 use Rattle.card.proofs.Facts.{facts}
 use Rattle.batch.specs.Batch.{updates, anyUpdate, falls, batchNumber}
-use Rattle.update.proofs.Crowded.{step-admitted, empty-not-crowded}
+use Rattle.update.proofs.Crowded.{empty-not-crowded}
+use Rattle.update.proofs.Steps.{accepting}
 use Rattle.history.specs.Claims.{EmptyNeverFull}
 
 empty-in-order : batchNumber [] ≡ 0
@@ -15,4 +16,4 @@ empty-in-order = refl
 
 pub emptyNeverFull : EmptyNeverFull
 unfolding EmptyNeverFull
-emptyNeverFull c w j = step-admitted c [] j empty-in-order (empty-not-crowded c (facts c j) w)
+emptyNeverFull c w j = accepting c [] (record { sound = j; inOrder = empty-in-order; free = empty-not-crowded c (facts c j) w })

@@ -6,3 +6,5 @@ pub mod Events
 pub mod Keeping
 pub mod Kept
 pub mod Landed
+pub mod PassEnds
+pub mod Sharp

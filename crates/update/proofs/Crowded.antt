@@ -23,11 +23,6 @@ use Rattle.batch.proofs.Meaning.{removed, applied-removals}
 use Rattle.update.specs.Step.{remains, spent, nextBoundary, freed, grown, crowded, stepNumber}
 use Rattle.update.proofs.Room.{Kept, Last, Room, FirstDone, keep-above, kept-none, at-most-one, whole-spent, room-next, room-last}
 
--- a step is taken where the card is sound, the batch in order and a place stays free
-pub step-admitted : (c b : List ℕ) → judged c ≡ 0 → batchNumber b ≡ 0 → crowded c (remains c b) ≡ false → stepNumber c b ≡ 0
-unfolding stepNumber firstOf
-step-admitted c b j n e = rw (j, n, e)
-
 -- a batch only removes
 abbrev pub Removals : List ℕ → Type 0
 Removals b = anyUpdate (λ u. eqb (u .kind) 1) (updates b) ≡ false

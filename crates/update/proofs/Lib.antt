@@ -2,6 +2,7 @@ pub mod Blocks
 pub mod Configuration
 pub mod Configured
 pub mod Crowded
+pub mod Ends
 pub mod Frame
 pub mod Grown
 pub mod Next

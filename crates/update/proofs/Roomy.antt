@@ -15,13 +15,17 @@ use Rattle.block.specs.Block.{due, goesOn}
 use Rattle.block.proofs.Due.{goesOn-some}
 use Rattle.card.specs.Layout.{blockSize, placeCount, oldStart, oldLength, newLength, boundary, around, place, oldPlaces}
 use Rattle.card.proofs.Circle.{length-around, around-drop}
-use Rattle.card.proofs.Facts.{Facts}
+use Rattle.card.specs.Sound.{judged}
+use Rattle.card.proofs.Facts.{Facts, facts}
 use Rattle.card.proofs.Frame.{SameAt, Alike, boundary-alike, oldPlaces-alike, word-alike}
-use Rattle.update.specs.Step.{remains, spent, grown, freed, nextBoundary, configured, configuration}
+use Rattle.batch.specs.Batch.{batchNumber}
+use Rattle.update.specs.Step.{remains, spent, grown, freed, nextBoundary, configured, configuration, nextWrite, written, stepNumber}
 use Rattle.update.proofs.Configured.{configured-boundary, configured-oldPlaces, configured-new, configured-count, configured-same}
-use Rattle.update.proofs.Crowded.{Removals, stays, remains-removals}
+use Rattle.update.proofs.Crowded.{Removals, stays, remains-removals, removals-not-crowded}
 use Rattle.update.proofs.Room.{Kept, Last, Room, FirstDone, room-next, room-last}
 use Rattle.update.proofs.Spent.{spent-length}
+use Rattle.update.proofs.Steps.{accepting}
+use Rattle.update.proofs.Writes.{three, written-first-alike, written-second-alike}
 
 -- the card has room for what the batch leaves: two places are free, or one, and nothing is left of the first old block
 abbrev pub Roomy : List ℕ → List ℕ → Type 0
@@ -92,3 +96,18 @@ roomy-configuration b c f w o h =
         (roomy-configured b c (oldStart c + oldLength c) (grown c (Kept g c k is)) 0 0 f
         (inl (rw (length-around (placeCount c) (oldStart c + oldLength c) (grown c (Kept g c k is)))
         (omega (arith, room-last g c k is (newLength c) (placeCount c) room h)))))
+
+-- with room for them removals are never refused
+pub roomy-number : (b c : List ℕ) → judged c ≡ 0 → Words c → batchNumber b ≡ 0 → Removals b → Roomy b c → stepNumber c b ≡ 0
+roomy-number b c j w n o h =
+    accepting c b (record { sound = j; inOrder = n; free = removals-not-crowded c b (facts c j) w o h })
+
+-- and a step of removals keeps the room, whichever write it makes
+pub roomy-written : (b c : List ℕ) → Facts c → Words c → Removals b → Roomy b c → Roomy b (written c (remains c b) (nextWrite c (remains c b)))
+unfolding written
+roomy-written b c f w o h =
+    let r : List ℕ = remains c b in
+    three c r (λ x. Roomy b (written c r x))
+    (λ some. roomy-alike b c (written c r 1) (written-first-alike c r f) h)
+    (λ some placed. roomy-alike b c (written c r 2) (written-second-alike c r f) h)
+    (λ ready. roomy-configuration b c f w o h)
