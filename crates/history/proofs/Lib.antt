@@ -1,4 +1,11 @@
+pub mod Answers
 pub mod BlocksRead
+pub mod Demand3
+pub mod EmptyBatch
+pub mod Events
+pub mod Keeping
 pub mod Kept
 pub mod KeptEvents
 pub mod Landed
+pub mod PassEnds
+pub mod Sharp
