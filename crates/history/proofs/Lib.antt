@@ -5,8 +5,6 @@ pub mod EmptyBatch
 pub mod Events
 pub mod Keeping
 pub mod Kept
-pub mod KeptBatch
-pub mod KeptEvents
 pub mod Landed
 pub mod PassEnds
 pub mod Sharp
