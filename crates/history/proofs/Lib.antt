@@ -5,6 +5,7 @@ pub mod EmptyBatch
 pub mod Events
 pub mod Keeping
 pub mod Kept
+pub mod KeptBatch
 pub mod Landed
 pub mod PassEnds
 pub mod Sharp
