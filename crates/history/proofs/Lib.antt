@@ -1,5 +1,6 @@
 pub mod BlocksRead
 pub mod EmptyBatch
+pub mod Events
 pub mod Keeping
 pub mod Kept
 pub mod Landed
