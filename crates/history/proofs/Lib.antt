@@ -6,3 +6,4 @@ pub mod Kept
 pub mod Landed
 pub mod PassEnds
 pub mod Sharp
+pub mod Removals
