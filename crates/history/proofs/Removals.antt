@@ -1,28 +1,27 @@
 -- With a removals-only batch, kept throughout, number 8 never occurs if two places were free at its first step.
-use Prim.Native.Nat.{ℕ, zero, suc, _+_, _-_, _≤_, _<_}
+use Prim.Native.Nat.{ℕ}
 use native.Mathlib.Omega.{arith}
-use mathlib.Core.Path.{_≡_, refl, sym, _∙_, ap}
-use mathlib.Core.Bool.{Bool, true, false, cond, _&&_, not}
+use mathlib.Core.Path.{_≡_, refl, sym}
+use mathlib.Core.Bool.{Bool, true, false, cond}
 use mathlib.Core.List.{List, [], _∷_}
-use mathlib.Core.Logic.{_⊎_, inl, inr}
-use lib.ListN.{length}
+use mathlib.Core.Logic.{inl}
 use lib.Seq.{sets}
 use lib.Dec.{eqb}
 use borrow.Author.Tests.{ne-eqb}
-use Rattle.pair.specs.Rank.{Words, term, position}
+use Rattle.pair.specs.Rank.{Words}
 use Rattle.pair.proofs.Order.{term-rank, position-rank}
-use Rattle.card.specs.Layout.{word, blockSize, placeCount, oldLength, entryWidth, entryAt, placeAt, boundary, live, formatNumber, formatted}
+use Rattle.card.specs.Layout.{word, blockSize, placeCount, oldLength, entryWidth, entryAt, placeAt, boundary, live, formatNumber}
 use Rattle.card.specs.Sound.{judged}
 use Rattle.card.proofs.Circle.{length-around}
 use Rattle.card.proofs.Facts.{Facts, facts}
 use Rattle.card.proofs.Formatted.{formatted-refused}
 use Rattle.batch.specs.Batch.{batchNumber}
-use Rattle.update.specs.Step.{Step, remains, duePlace, nextWrite, written, stepNumber, taken, step}
+use Rattle.update.specs.Step.{remains, duePlace, nextWrite, written, stepNumber, taken, step}
 use Rattle.update.proofs.Crowded.{Removals}
 use Rattle.update.proofs.Roomy.{Roomy, roomy-alike, roomy-configuration, roomy-number, roomy-written}
 use Rattle.update.proofs.Steps.{step-taken}
 use Rattle.update.proofs.Writes.{three, alike-duePlace, alike-dueEntry}
-use Rattle.history.specs.History.{History, Event, stepped, cut, looked, restarted, formats, just, torn, after, told, OfWords, AllOfWords}
+use Rattle.history.specs.History.{History, Event, stepped, cut, looked, restarted, formats, just, torn, after, told, AllOfWords}
 use Rattle.history.specs.Claims.{Lends, Keeps, ran, freePlaces, RemovalsNeverFull}
 use Rattle.history.proofs.Keeping.{Keeping}
 use Rattle.history.proofs.Events.{length-just, keeping-after}
@@ -63,9 +62,11 @@ module _ (c b : List ℕ) (f : Facts c) (j : judged c ≡ 0) (w : Words c) (n : 
     where
       r : List ℕ
       r = remains c b
+
       P : ℕ → Type 0
       P x = Roomy b (cond (eqb x 1) (sets c (placeAt entryWidth c (duePlace c)) (just (blockSize c) ws))
           (cond (eqb x 2) (sets c (entryAt entryWidth (duePlace c)) (just entryWidth ws)) (cond l (written c r x) c)))
+
       lands : (t : Bool) → Roomy b (cond t (written c r 3) c)
       lands true = roomy-configuration b c f w o h
       lands false = h
