@@ -9,3 +9,4 @@ pub mod KeptBatch
 pub mod Landed
 pub mod PassEnds
 pub mod Sharp
+pub mod Removals
