@@ -1,17 +1,17 @@
 -- What a batch that is in order is made of.
-use Prim.Native.Nat.{ℕ, zero, suc, _+_, _*_, _%_, _≤_, _<_}
-use mathlib.Core.Path.{_≡_, refl, sym, ap, _∙_}
-use mathlib.Core.Bool.{Bool, true, false, cond, _&&_, _||_, not, false≢true}
-use mathlib.Core.List.{List, [], _∷_, _++_}
+use Prim.Native.Nat.{ℕ, suc, _*_, _%_, _≤_, _<_}
+use mathlib.Core.Path.{_≡_}
+use mathlib.Core.Bool.{Bool, true, false, _&&_, _||_, not, false≢true}
+use mathlib.Core.List.{List, [], _∷_}
 use mathlib.Core.Logic.{_≢_, _⊎_, inl, inr, ⊎-map}
-use lib.ListN.{length, getD}
-use lib.Dec.{ltb, leb, eqb}
+use lib.ListN.{length}
+use lib.Dec.{ltb, eqb}
 use native.Mathlib.Omega.{arith}
-use borrow.Author.Tests.{ltb-true, ltb-false, eqb-true, eqb-false, not-false, eq-eqb}
+use borrow.Author.Tests.{ltb-false, eqb-true, eqb-false, not-false, eq-eqb}
 use Rattle.pair.specs.Rank.{rank, Words, Proper}
-use Rattle.pair.specs.Rising.{Each, risingFrom, firstOf}
+use Rattle.pair.specs.Rising.{Each, risingFrom}
 use Rattle.pair.proofs.Tests.{and-left, and-right, or-left, or-right, or-cases}
-use Rattle.pair.proofs.Order.{proper-rank, proper-positive}
+use Rattle.pair.proofs.Order.{proper-rank}
 use Rattle.pair.proofs.FirstOf.{passed}
 use Rattle.batch.specs.Batch.{Update, updates, anyUpdate, adds, applied, illFormed, falls, batchNumber}
 use Rattle.batch.proofs.Meaning.{added, Each-applied, rising-applied}

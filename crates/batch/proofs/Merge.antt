@@ -1,17 +1,17 @@
 -- The merge of a set with the additions of a batch, one pair after the other.
 use Prim.Native.Nat.{ℕ, zero, suc, min, _≤_, _<_}
-use mathlib.Core.Path.{_≡_, refl, sym, ap, _∙_}
-use mathlib.Core.Bool.{Bool, true, false, cond, _&&_, _||_, not}
-use mathlib.Core.List.{List, [], _∷_, _++_}
-use mathlib.Core.Logic.{_≢_, _⊎_, inl, inr}
-use lib.ListN.{length, getD}
-use lib.Dec.{ltb, leb, eqb}
+use mathlib.Core.Path.{_≡_, refl, sym, _∙_}
+use mathlib.Core.Bool.{Bool, true, false, cond, _&&_, not}
+use mathlib.Core.List.{List, [], _∷_}
+use mathlib.Core.Logic.{_⊎_, inl, inr}
+use lib.ListN.{getD}
+use lib.Dec.{ltb, eqb}
 use native.Mathlib.Omega.{arith}
-use borrow.Author.Tests.{ltb-true, ltb-false, eqb-true, eqb-false, lt-ltb, le-ltb, eq-eqb, ne-eqb}
+use borrow.Author.Tests.{ltb-true, ltb-false, lt-ltb, le-ltb, eq-eqb, ne-eqb}
 use Rattle.pair.specs.Rank.{rank}
-use Rattle.pair.specs.Rising.{Each, keep, above, risingFrom, insert}
-use Rattle.pair.proofs.Tests.{and-left, and-right, or-left, or-right, compared}
-use Rattle.pair.proofs.Rising.{rises, rises-from, rises-tail}
+use Rattle.pair.specs.Rising.{Each, keep, above, insert}
+use Rattle.pair.proofs.Tests.{and-right, or-left, or-right, compared}
+use Rattle.pair.proofs.Rising.{rises}
 use Rattle.pair.proofs.Keep.{keep-cons}
 use Rattle.pair.proofs.Parts.{above-keep, Each-above, rises-next}
 use Rattle.batch.specs.Batch.{Update, withdrawn, withAdded, applied, falls}

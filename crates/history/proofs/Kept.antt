@@ -1,19 +1,18 @@
 -- One batch, begun with no pass open and kept: from its first finishing write on the pairs are the old ones with the batch applied.
-use Prim.Native.Nat.{ℕ, zero, suc, _≤_, _<_}
+use Prim.Native.Nat.{ℕ, _≤_, _<_}
 use mathlib.Core.Path.{_≡_, refl, sym, ap, _∙_}
 use mathlib.Core.Bool.{Bool, true, false}
-use mathlib.Core.List.{List, [], _∷_, _++_}
+use mathlib.Core.List.{List, _++_}
 use native.Mathlib.Omega.{arith}
 use Rattle.pair.specs.Rising.{above, atMost, risingFrom}
 use Rattle.pair.proofs.Rising.{rises, rises-from}
-use Rattle.pair.proofs.Parts.{parts, above-all, atMost-none, above-joined, above-joined-further, atMost-joined, atMost-joined-nearer, rising-joined}
+use Rattle.pair.proofs.Parts.{parts, above-all, atMost-none, above-joined, above-joined-further, atMost-joined, rising-joined}
 use Rattle.block.specs.Block.{goesOn}
 use Rattle.batch.specs.Batch.{updates, applied, batchNumber}
-use Rattle.batch.proofs.Meaning.{rises-applied, applied-twice}
 use Rattle.batch.proofs.Local.{above-applied}
 use Rattle.batch.proofs.InOrder.{rising-batch}
 use Rattle.history.specs.History.{History, toWrite, landed}
-use Rattle.history.proofs.Landed.{target, reach, mark-rises, landed-on, landed-end, landed-size}
+use Rattle.history.proofs.Landed.{target, reach, mark-rises, landed-on, landed-end}
 
 -- in a pass with the batch b over the pairs s: up to the mark the batch is applied, above it the pairs are those of s
 pub record Kept (b s : List ℕ) (h : History) : Type 0 where

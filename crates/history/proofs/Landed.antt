@@ -1,25 +1,24 @@
 -- A landed configuration write applies the batch to the pairs it moves past, and to no other pair.
-use Prim.Native.Nat.{ℕ, zero, suc, _+_, _-_, _≤_, _<_}
+use Prim.Native.Nat.{ℕ, zero, suc, _-_, _≤_, _<_}
 use mathlib.Core.Path.{_≡_, refl, sym, ap, _∙_}
-use mathlib.Core.Bool.{Bool, true, false, cond, _&&_, _||_, not}
-use mathlib.Core.List.{List, [], _∷_, _++_, append-nil, append-assoc}
+use mathlib.Core.Bool.{Bool, true, false, cond}
+use mathlib.Core.List.{List, [], _∷_, _++_, append-assoc}
 use mathlib.Core.Logic.{_⊎_, inl, inr}
-use lib.ListN.{length, take, drop}
-use lib.Dec.{ltb, leb, eqb}
+use lib.ListN.{take, drop}
+use lib.Dec.{leb, eqb}
 use native.Mathlib.Omega.{arith}
 use borrow.Author.Tests.{ltb-true, le-leb}
 use Rattle.pair.specs.Rank.{term, Words, Proper}
 use Rattle.pair.specs.Rising.{Each, above, atMost, risingFrom, last}
 use Rattle.pair.proofs.Tests.{cond-both}
 use Rattle.pair.proofs.Rising.{rises, rises-from, rising-weaker, rising-head, rising-tail, rising-last, rising-take}
-use Rattle.pair.proofs.Sets.{has, has-low, has-last}
 use Rattle.pair.proofs.Each.{Each-append, Each-imply, Each-take, Each-last}
-use Rattle.pair.proofs.Parts.{parts, rises-parts, rising-atMost, above-append, atMost-append, above-above, above-further, atMost-atMost, atMost-nearer, above-atMost, above-atMost-none, above-take, atMost-take, rises-above, above-joined, atMost-joined, atMost-joined-nearer, rising-joined, above-Each, atMost-Each}
-use Rattle.block.specs.Block.{cost, fitting, due, goesOn}
+use Rattle.pair.proofs.Parts.{atMost-append, above-further, atMost-atMost, above-atMost, above-take, atMost-take, rises-above, above-joined, atMost-joined, atMost-joined-nearer, rising-joined, above-Each, atMost-Each}
+use Rattle.block.specs.Block.{fitting, due, goesOn}
 use Rattle.batch.specs.Batch.{Update, updates, applied, batchNumber}
 use Rattle.batch.proofs.Meaning.{rises-applied}
 use Rattle.batch.proofs.Local.{above-applied}
-use Rattle.batch.proofs.InOrder.{rising-batch, proper-batch}
+use Rattle.batch.proofs.InOrder.{proper-batch}
 use Rattle.history.specs.History.{History, toWrite, next, landed}
 
 -- a block of three words or more takes the first pair

@@ -1,12 +1,11 @@
 -- The elements of a list that pass a test.
-use Prim.Native.Nat.{ℕ, zero, suc, _≤_, _<_}
-use mathlib.Core.Path.{_≡_, refl, sym, ap, _∙_}
-use mathlib.Core.Bool.{Bool, true, false, cond, _&&_, _||_, not}
+use Prim.Native.Nat.{ℕ, suc, _≤_}
+use mathlib.Core.Path.{_≡_, refl, sym, _∙_}
+use mathlib.Core.Bool.{Bool, true, false, cond, _&&_}
 use mathlib.Core.List.{List, [], _∷_, _++_}
 use lib.ListN.{length}
 use native.Mathlib.Omega.{arith}
 use Rattle.pair.specs.Rising.{Each, keep}
-use Rattle.pair.proofs.Tests.{contradiction}
 
 pub keep-cons : (f : ℕ → Bool) (x : ℕ) (xs : List ℕ) → keep f (x ∷ xs) ≡ cond (f x) (x ∷ keep f xs) (keep f xs)
 unfolding keep

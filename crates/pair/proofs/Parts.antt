@@ -1,15 +1,15 @@
 -- The parts of a set above a number, up to it, and between two numbers.
-use Prim.Native.Nat.{ℕ, zero, suc, _≤_, _<_}
+use Prim.Native.Nat.{ℕ, _≤_, _<_}
 use mathlib.Core.Path.{_≡_, refl, sym, ap, _∙_}
-use mathlib.Core.Bool.{Bool, true, false, cond, _&&_, _||_, not}
+use mathlib.Core.Bool.{Bool, true, false, cond, _&&_}
 use mathlib.Core.List.{List, [], _∷_, _++_, append-nil}
 use lib.ListN.{take, drop, take-append-drop}
-use lib.Dec.{ltb, leb, eqb}
+use lib.Dec.{ltb, leb}
 use native.Mathlib.Omega.{arith}
 use borrow.Author.Tests.{ltb-true, ltb-false, leb-true, leb-false, lt-ltb, le-ltb, le-leb, lt-leb}
 use Rattle.pair.specs.Rising.{Each, keep, above, atMost, within, risingFrom, last}
-use Rattle.pair.proofs.Rising.{rising-head, rising-tail, rising-above, rising-last, rising-take, rising-rest, rising-keep, rising-join, rising-weaker, rises, rises-from, rises-tail, rises-keep, rises-rising}
-use Rattle.pair.proofs.Sets.{has, has-low, has-high, Each-members}
+use Rattle.pair.proofs.Rising.{rising-head, rising-tail, rising-take, rising-rest, rising-keep, rising-join, rising-weaker, rises, rises-from, rises-tail, rises-keep, rises-rising}
+use Rattle.pair.proofs.Sets.{has-low, has-high, Each-members}
 use Rattle.pair.proofs.Keep.{keep-append, keep-all, keep-none, keep-before, keep-after, keep-swap}
 use Rattle.pair.proofs.Each.{Each-imply, Each-keep, Each-kept, Each-last}
 

@@ -1,14 +1,14 @@
 -- Rising lists: where they start, where they end, and what keeps them rising.
-use Prim.Native.Nat.{ℕ, zero, suc, _≤_, _<_}
-use mathlib.Core.Path.{_≡_, refl, sym, _∙_}
-use mathlib.Core.Bool.{Bool, true, false, cond, _&&_, _||_, not, and-assoc}
+use Prim.Native.Nat.{ℕ, _≤_, _<_}
+use mathlib.Core.Path.{_≡_, refl, sym}
+use mathlib.Core.Bool.{Bool, true, false, cond, _&&_, and-assoc}
 use mathlib.Core.Logic.{_≢_}
 use mathlib.Core.List.{List, [], _∷_, _++_}
 use lib.ListN.{take, drop, take-append-drop}
-use lib.Dec.{ltb, leb, eqb}
+use lib.Dec.{ltb, eqb}
 use native.Mathlib.Omega.{arith}
-use borrow.Author.Tests.{ltb-true, ltb-false, eqb-true, eqb-false, lt-ltb}
-use Rattle.pair.specs.Rising.{Each, keep, above, atMost, within, risingFrom, insert, last}
+use borrow.Author.Tests.{ltb-true, ltb-false, eqb-false, lt-ltb}
+use Rattle.pair.specs.Rising.{Each, keep, above, risingFrom, insert, last}
 use Rattle.pair.proofs.Tests.{and-left, and-right, and-both}
 
 -- a rising list begins with a number above its start, and goes on rising from there
