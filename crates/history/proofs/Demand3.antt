@@ -3,12 +3,14 @@ use Prim.Native.Nat.{ℕ, _<_}
 use mathlib.Core.Path.{_≡_, refl, sym, _∙_, ap}
 use mathlib.Core.List.{List, [], _∷_}
 use native.Mathlib.Omega.{arith}
+use Rattle.pair.specs.Rank.{Words}
 use Rattle.card.specs.Layout.{formatNumber}
+use Rattle.card.specs.Sound.{judged}
 use Rattle.card.proofs.Formatted.{formattable}
 use Rattle.history.specs.History.{History, Event, after, told, Agrees, Holds, AllOfWords, Demand3}
 use Rattle.history.proofs.Answers.{answered}
 use Rattle.history.proofs.Events.{keeping-after}
-use Rattle.history.proofs.Keeping.{Keeping, keeping-formatted}
+use Rattle.history.proofs.Keeping.{Keeping, itself, keeping-itself, keeping-formatted}
 
 -- A card that keeps to its history agrees with it.
 pub agrees : (c : List ℕ) (h : History) → Keeping c h → Agrees c h
@@ -25,3 +27,7 @@ unfolding Demand3
 demand3 c b n es wc we e =
     let f = formattable c b n e in
     holds _ _ es (keeping-formatted c b n e wc (omega (arith, f .sizeHigh)) (omega (arith, f .countHigh))) we
+
+-- The same of any sound card and the history that it tells of itself.
+pub sound-holds : (c : List ℕ) (es : List Event) → Words c → AllOfWords es → judged c ≡ 0 → Holds c (itself c) es
+sound-holds c es wc we s = holds c (itself c) es (keeping-itself c wc s) we

@@ -1,8 +1,6 @@
 -- With an empty batch number 8 never occurs on a sound card.
 use mathlib.Core.Path.{_≡_, refl}
-use mathlib.Core.List.{List, []}
-use Prim.Native.Nat.{ℕ}
-use Rattle.pair.specs.Rank.{Words}
+use mathlib.Core.List.{[]}
 use Rattle.pair.specs.Rising.{firstOf}
 use Rattle.card.proofs.Facts.{facts}
 use Rattle.batch.specs.Batch.{updates, anyUpdate, falls, batchNumber}

@@ -7,7 +7,7 @@ use native.Mathlib.Omega.{arith}
 use lib.ListN.{length}
 use Rattle.pair.specs.Rank.{rank, term, position, Words}
 use Rattle.pair.specs.Rising.{above, atMost, last}
-use Rattle.pair.proofs.Order.{rank-term-position}
+use Rattle.pair.proofs.Order.{term-rank, position-rank, rank-term-position}
 use Rattle.block.specs.Block.{due, goesOn}
 use Rattle.card.specs.Layout.{word, blockSize, boundary, live, formatNumber, formatted}
 use Rattle.card.specs.Sound.{judged}
@@ -33,6 +33,23 @@ pub record Keeping (c : List ℕ) (h : History) : Type 0 where
 
 pub keeping-boundary : (c : List ℕ) (h : History) → Keeping c h → boundary c ≡ h .mark
 keeping-boundary c h k = rw (k .markTerm, k .markPosition) (rank-term-position (h .mark))
+
+-- the history that a card tells of itself
+abbrev pub itself : List ℕ → History
+itself c = record { size = blockSize c; pairs = live c; mark = boundary c }
+
+-- A sound card keeps to it.
+pub keeping-itself : (c : List ℕ) → Words c → judged c ≡ 0 → Keeping c (itself c)
+unfolding Words
+keeping-itself c w s =
+    record {
+      sound = s;
+      words = w;
+      index = refl;
+      markTerm = sym (term-rank (word c 6) (word c 7) (w 7));
+      markPosition = sym (position-rank (word c 6) (word c 7) (w 7));
+      size = refl;
+    }
 
 -- What remains on the card is what the history has to write.
 pub keeping-remains : (c b : List ℕ) (h : History) → Keeping c h → remains c b ≡ toWrite b h

@@ -5,18 +5,18 @@ use mathlib.Core.Bool.{Bool, true, false, cond, _&&_, _||_, not, false≢true, a
 use mathlib.Core.List.{List, [], _∷_}
 use mathlib.Core.Logic.{_⊎_, inl, inr}
 use native.Mathlib.Omega.{arith}
-use lib.Dec.{eqb, ltb}
+use lib.Dec.{eqb}
 use borrow.Author.Tests.{eqb-true, ne-eqb}
 use Rattle.pair.specs.Rank.{Words, term, position}
-use Rattle.pair.specs.Rising.{risingFrom}
+use Rattle.pair.specs.Rising.{risingFrom, last}
 use Rattle.pair.proofs.Rising.{rises-from}
 use Rattle.pair.proofs.Tests.{and-left, and-right, or-cases, contradiction}
 use Rattle.block.specs.Block.{goesOn}
 use Rattle.batch.specs.Batch.{updates, applied, batchNumber}
 use Rattle.batch.proofs.InOrder.{rising-batch}
 use Rattle.batch.proofs.Meaning.{applied-twice}
-use Rattle.card.specs.Layout.{word, blockSize, newLength, live, formatNumber}
-use Rattle.card.specs.Sound.{judged, boundaryWords}
+use Rattle.card.specs.Layout.{newLength, boundary, around, pairsAt, live, formatNumber}
+use Rattle.card.specs.Sound.{judged}
 use Rattle.card.proofs.Facts.{Facts, facts}
 use Rattle.card.proofs.Live.{live-rising}
 use Rattle.update.specs.Step.{Step, remains, stepNumber, taken, step}
@@ -25,7 +25,7 @@ use Rattle.history.specs.History.{History, started, toWrite, landed, Eve
 use Rattle.history.specs.Claims.{Lends, Keeps, ran, finishing, finished, KeptBatch}
 use Rattle.history.proofs.Answers.{step-finishes}
 use Rattle.history.proofs.Events.{keeping-after}
-use Rattle.history.proofs.Keeping.{Keeping}
+use Rattle.history.proofs.Keeping.{Keeping, itself, keeping-itself}
 use Rattle.history.proofs.Kept.{Kept, kept-start, kept-on, kept-again, kept-applied, kept-still}
 
 -- A step that did not make the third write has not finished.
@@ -118,20 +118,15 @@ module _ (b : List ℕ) (o : batchNumber b ≡ 0) where
           let f′ : (finishing c e || finished (after c e) es) ≡ true = f in
           again p′ (rw fin at f′)
 
--- with no pass open the boundary words are 0
-closed : (c : List ℕ) → Facts c → newLength c ≡ 0 → (word c 6 ≡ 0) × (word c 7 ≡ 0)
-unfolding boundaryWords
-closed c f n =
-    let w : cond (eqb (newLength c) 0) (eqb (word c 6) 0 && eqb (word c 7) 0) (ltb 0 (word c 6) && ltb 0 (word c 7)) ≡ true = f .boundWords in
-    let v : (eqb (word c 6) 0 && eqb (word c 7) 0) ≡ true = rw n at w in
-    (eqb-true (word c 6) 0 (and-left (eqb (word c 6) 0) (eqb (word c 7) 0) v), eqb-true (word c 7) 0 (and-right (eqb (word c 6) 0) (eqb (word c 7) 0) v))
+-- with no pass open there is no boundary
+closed : (c : List ℕ) → Facts c → newLength c ≡ 0 → boundary c ≡ 0
+unfolding around pairsAt last
+closed c f n = sym (f .lastNew) ∙ rw n
 
 pub keptBatch : KeptBatch
 unfolding KeptBatch
 keptBatch c b es wc wb we s n l fin =
-    turns b o es c (live c) h
-    (record { sound = s; words = wc; index = refl; markTerm = closed c f n .0; markPosition = closed c f n .1; size = refl })
-    (kept-start b (live c) o r h (omega (arith, f .sizeLow)) refl refl) r l we fin
+    turns b o es c (live c) (itself c) (keeping-itself c wc s) (kept-start b (live c) o r (itself c) (omega (arith, f .sizeLow)) (closed c f n) refl) r l we fin
   where
     f : Facts c
     f = facts c s
@@ -139,5 +134,3 @@ keptBatch c b es wc wb we s n l fin =
     o = ordered b es c l fin
     r : risingFrom 0 (live c) ≡ true
     r = live-rising c f
-    h : History
-    h = record { size = blockSize c; pairs = live c; mark = 0 }

@@ -8,4 +8,5 @@ pub mod Kept
 pub mod KeptBatch
 pub mod Landed
 pub mod PassEnds
+pub mod Removals
 pub mod Sharp

@@ -1,11 +1,11 @@
 -- Two bounds are reached: with one place free removals can meet number 8, and two blocks more can be read than hold a posting in range.
-use Prim.Native.Nat.{ℕ, suc, _+_}
+use Prim.Native.Nat.{ℕ, _+_}
 use mathlib.Core.Path.{_≡_, refl}
-use mathlib.Core.Bool.{Bool, false}
+use mathlib.Core.Bool.{false}
 use mathlib.Core.List.{List, [], _∷_}
 use lib.Dec.{eqb}
 use Rattle.pair.specs.Rank.{rank}
-use Rattle.pair.specs.Rising.{keep, above, within, risingFrom, last, any, firstOf, insert}
+use Rattle.pair.specs.Rising.{keep, above, risingFrom, last, any, firstOf, insert}
 use Rattle.block.specs.Block.{zeros, pairsFrom, pairs, formedFrom, formed, fitting, due, goesOn}
 use Rattle.card.specs.Layout.{firstPair, place, around, pairsAt, live, boundary, oldPlaces, newPlaces}
 use Rattle.card.specs.Sound.{blocksSound, firstReaches, boundaryWords, segmentsSound, judged}

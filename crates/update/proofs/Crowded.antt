@@ -1,27 +1,24 @@
 -- Number 8 never comes of an empty batch, nor of removals while there is room for them.
-use Prim.Native.Nat.{ℕ, zero, suc, _+_, _-_, _≤_, _<_}
+use Prim.Native.Nat.{ℕ, _+_, _-_, _≤_, _<_}
 use native.Mathlib.Omega.{arith}
-use mathlib.Core.Path.{_≡_, refl, sym, _∙_, ap}
-use mathlib.Core.Bool.{Bool, true, false, cond, _&&_, not}
-use mathlib.Core.List.{List, [], _∷_, _++_}
-use lib.ListN.{length, drop}
-use lib.Dec.{ltb, leb, eqb}
-use borrow.Author.Tests.{lt-leb, eqb-true, eqb-false}
+use mathlib.Core.Path.{_≡_, refl}
+use mathlib.Core.Bool.{Bool, true, false, cond, not}
+use mathlib.Core.List.{List, [], _∷_}
+use lib.ListN.{length}
+use lib.Dec.{eqb}
+use borrow.Author.Tests.{lt-leb}
 use Rattle.pair.specs.Rank.{Words}
-use Rattle.pair.specs.Rising.{keep, above, risingFrom, last, firstOf}
-use Rattle.pair.proofs.Each.{Each-all}
-use Rattle.pair.proofs.Keep.{keep-all}
-use Rattle.block.specs.Block.{pairs, due, goesOn}
+use Rattle.pair.specs.Rising.{risingFrom, last}
+use Rattle.block.specs.Block.{due, goesOn}
 use Rattle.block.proofs.Due.{goesOn-some}
-use Rattle.card.specs.Layout.{word, blockSize, placeCount, oldLength, newLength, boundary, place, oldPlaces, pairsAt, live}
-use Rattle.card.specs.Sound.{judged}
+use Rattle.card.specs.Layout.{blockSize, placeCount, oldLength, newLength, boundary, oldPlaces, pairsAt, live}
 use Rattle.card.proofs.Circle.{length-around}
 use Rattle.card.proofs.Facts.{Facts}
 use Rattle.card.proofs.Live.{live-above}
-use Rattle.batch.specs.Batch.{Update, updates, anyUpdate, applied, batchNumber}
+use Rattle.batch.specs.Batch.{updates, anyUpdate}
 use Rattle.batch.proofs.Meaning.{removed, applied-removals}
-use Rattle.update.specs.Step.{remains, spent, nextBoundary, freed, grown, crowded, stepNumber}
-use Rattle.update.proofs.Room.{Kept, Last, Room, FirstDone, keep-above, kept-none, at-most-one, whole-spent, room-next, room-last}
+use Rattle.update.specs.Step.{remains, spent, nextBoundary, freed, grown, crowded}
+use Rattle.update.proofs.Room.{Kept, Last, Room, keep-above, kept-none, at-most-one, whole-spent, room-next, room-last}
 
 -- a batch only removes
 abbrev pub Removals : List ℕ → Type 0

@@ -1,8 +1,8 @@
 -- A pass with its batch kept, uncut and unrefused, finishes: each step makes the work left smaller.
 use Prim.Native.Nat.{ℕ, zero, suc, _+_, _*_, _-_, _≤_, _<_}
 use native.Mathlib.Omega.{arith}
-use mathlib.Core.Path.{_≡_, refl, sym, _∙_, ap}
-use mathlib.Core.Bool.{Bool, true, false, cond, _&&_, _||_, not}
+use mathlib.Core.Path.{_≡_, refl, sym, _∙_}
+use mathlib.Core.Bool.{Bool, true, false, _&&_, _||_, not}
 use mathlib.Core.List.{List, [], _∷_}
 use lib.ListN.{length, drop}
 use lib.Dec.{eqb}
@@ -11,12 +11,11 @@ use Rattle.pair.specs.Rank.{Words}
 use Rattle.pair.proofs.Tests.{or-left, or-right}
 use Rattle.block.specs.Block.{fitting, goesOn}
 use Rattle.block.proofs.Due.{goesOn-some}
-use Rattle.batch.specs.Batch.{batchNumber}
 use Rattle.card.specs.Layout.{blockSize, place}
 use Rattle.card.specs.Sound.{judged}
 use Rattle.card.proofs.Facts.{Facts, facts}
 use Rattle.card.proofs.Frame.{Alike, judged-alike}
-use Rattle.update.specs.Step.{Step, remains, duePlace, dueBlock, nextWrite, written, configuration, crowded, stepNumber, taken, step}
+use Rattle.update.specs.Step.{remains, duePlace, dueBlock, nextWrite, written, configuration, stepNumber, taken, step}
 use Rattle.update.specs.Pass.{blocks, stepLimit, finishesWithin, refusedWithin}
 use Rattle.update.proofs.Blocks.{blocks-next, blocks-none, blocks-some, blocks-goesOn}
 use Rattle.update.proofs.Frame.{size-alike, remains-alike}
@@ -89,21 +88,26 @@ turn c b n f wc wb a ih l = three c r P first second third refl
   where
     r : List ℕ
     r = remains c b
+
     m : Remaining c r
     m = remaining c b f wc wb (a .inOrder)
+
     P : ℕ → Type 0
     P w = nextWrite c r ≡ w → (not (lastWrite c r w) && refusedWithin n (written c r w) b) ≡ false →
         (lastWrite c r w || finishesWithin n (written c r w) b) ≡ true
+
     first : 0 < length r → P 1
     first h e q =
         let d = written-first-alike c r f in
         ih (written c r 1) (written-first-words c r f wc (m .proper)) (judged-alike c (written c r 1) d ∙ a .sound)
         (omega (arith, work-alike c (written c r 1) b d (rw e (next-first c r f)))) q
+
     second : 0 < length r → place c (duePlace c) ≡ dueBlock c r → P 2
     second h p e q =
         let d = written-second-alike c r f in
         ih (written c r 2) (written-second-words c r f wc (m .proper) h) (judged-alike c (written c r 2) d ∙ a .sound)
         (omega (arith, work-alike c (written c r 2) b d (rw (e, next-second c r f p) (omega arith)))) q
+
     third : (0 < length r → Ready c r) → P 3
     third ready e = go (goesOn (blockSize c) r) refl
       where

@@ -2,18 +2,18 @@
 use Prim.Native.Nat.{ℕ, zero, suc, _+_, _-_, _≤_, _<_}
 use native.Mathlib.Omega.{arith}
 use mathlib.Core.Path.{_≡_, refl, sym, _∙_, ap}
-use mathlib.Core.Bool.{Bool, true, false, cond, _&&_, _||_, not}
+use mathlib.Core.Bool.{Bool, true, false, cond, _||_}
 use mathlib.Core.List.{List, [], _∷_, _++_}
 use mathlib.Core.Logic.{_⊎_, inl, inr}
-use lib.ListN.{length, take, drop, length-take, length-drop}
-use lib.Dec.{ltb, leb, eqb}
-use Rattle.pair.specs.Rank.{Words, Proper}
+use lib.ListN.{length, drop, length-take, length-drop}
+use lib.Dec.{ltb, eqb}
+use Rattle.pair.specs.Rank.{Words}
 use Rattle.pair.specs.Rising.{keep, above, risingFrom, last, any}
 use Rattle.pair.proofs.Each.{Each-all}
 use Rattle.pair.proofs.Keep.{keep-append, keep-swap, keep-all}
-use Rattle.pair.proofs.Rising.{rising-first, rising-second, rising-keep, rising-above, rising-last, rising-weaker, last-append}
+use Rattle.pair.proofs.Rising.{rising-first, rising-second, rising-keep, rising-above}
 use Rattle.pair.proofs.Parts.{above-append, above-none, above-further}
-use Rattle.block.specs.Block.{pairs, fitting, due, goesOn}
+use Rattle.block.specs.Block.{pairs, due}
 use Rattle.block.proofs.Size.{size, size-keep, block-size}
 use Rattle.block.proofs.Due.{due-high, due-covers}
 use Rattle.card.specs.Layout.{blockSize, entryWidth, placeAt, place, pairsAt}

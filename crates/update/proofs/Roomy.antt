@@ -1,19 +1,18 @@
 -- Removals keep their room: the first two writes leave it, and the configuration write does.
-use Prim.Native.Nat.{ℕ, zero, suc, _+_, _-_, _%_, _≤_, _<_}
+use Prim.Native.Nat.{ℕ, _+_, _-_, _≤_, _<_}
 use native.Mathlib.Omega.{arith}
-use mathlib.Core.Path.{_≡_, refl, sym, _∙_, ap}
-use mathlib.Core.Bool.{Bool, true, false, cond, _&&_, not}
-use mathlib.Core.List.{List, [], _∷_, _++_}
-use mathlib.Core.Logic.{_⊎_, inl, inr}
-use lib.ListN.{length, drop}
-use lib.Dec.{eqb}
+use mathlib.Core.Path.{_≡_, refl}
+use mathlib.Core.Bool.{Bool, true, false}
+use mathlib.Core.List.{List, [], _∷_}
+use mathlib.Core.Logic.{inl, inr}
+use lib.ListN.{length}
 use borrow.Author.Tests.{ne-eqb}
 use Rattle.pair.specs.Rank.{Words}
 use Rattle.pair.specs.Rising.{Each, last}
 use Rattle.pair.proofs.Each.{Each-all}
 use Rattle.block.specs.Block.{due, goesOn}
 use Rattle.block.proofs.Due.{goesOn-some}
-use Rattle.card.specs.Layout.{blockSize, placeCount, oldStart, oldLength, newLength, boundary, around, place, oldPlaces}
+use Rattle.card.specs.Layout.{blockSize, placeCount, oldStart, oldLength, newLength, boundary, around, oldPlaces}
 use Rattle.card.proofs.Circle.{length-around, around-drop}
 use Rattle.card.specs.Sound.{judged}
 use Rattle.card.proofs.Facts.{Facts, facts}
@@ -22,7 +21,7 @@ use Rattle.batch.specs.Batch.{batchNumber}
 use Rattle.update.specs.Step.{remains, spent, grown, freed, nextBoundary, configured, configuration, nextWrite, written, stepNumber}
 use Rattle.update.proofs.Configured.{configured-boundary, configured-oldPlaces, configured-new, configured-count, configured-same}
 use Rattle.update.proofs.Crowded.{Removals, stays, remains-removals, removals-not-crowded}
-use Rattle.update.proofs.Room.{Kept, Last, Room, FirstDone, room-next, room-last}
+use Rattle.update.proofs.Room.{Kept, Last, Room, room-next, room-last}
 use Rattle.update.proofs.Spent.{spent-length}
 use Rattle.update.proofs.Steps.{accepting}
 use Rattle.update.proofs.Writes.{three, written-first-alike, written-second-alike}
@@ -73,18 +72,25 @@ roomy-configuration b c f w o h =
   where
     g : ℕ → Bool
     g = stays b
+
     k : ℕ
     k = boundary c
+
     is : List ℕ
     is = oldPlaces c
+
     length-is : length is ≡ oldLength c
     length-is = length-around (placeCount c) _ (oldLength c)
+
     room : length is + newLength c < placeCount c
     room = rw length-is (f .room)
+
     gone : ℕ
     gone = spent c (Last g c k is) is
+
     few : gone ≤ oldLength c
     few = rw length-is at (spent-length c (Last g c k is) is)
+
     go : (t : Bool) → goesOn (blockSize c) (Kept g c k is) ≡ t → Roomy b (configuration c (Kept g c k is))
     go true on =
         rw (configuration-goes-on c (Kept g c k is) on)
