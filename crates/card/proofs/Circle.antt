@@ -3,7 +3,7 @@ use Prim.Native.Nat.{ℕ, zero, suc, _+_, _*_, _-_, _/_, _%_, _≤_, _<_}
 use mathlib.Core.Path.{_≡_, refl, sym, _∙_, ap}
 use mathlib.Core.Bool.{Bool, true, false}
 use mathlib.Core.List.{List, [], _∷_, _++_}
-use native.Mathlib.Nat.{div-add-mod', mul-le-mul-right, mod-add-mod, mod-mod, add-zero}
+use native.Mathlib.Nat.{div-add-mod', mul-le-mul-right, mod-add-mod, mod-mod}
 use native.Mathlib.Numerals.{add-one}
 use native.Mathlib.Omega.{arith}
 use lib.ListN.{length, drop, take}
@@ -57,6 +57,10 @@ around-mod n start zero = refl
 around-mod n start (suc len) =
     rw (mod-mod start n) (ap (λ l. start % n ∷ l)
     (sym (around-mod n (start % n + 1) len) ∙ rw (mod-add-mod start n 1) (around-mod n (start + 1) len)))
+
+pub around-mod-add : (n start a len : ℕ) → around n (start % n + a) len ≡ around n (start + a) len
+around-mod-add n start a len =
+    sym (around-mod n (start % n + a) len) ∙ ap (λ s. around n s len) (mod-add-mod start n a) ∙ around-mod n (start + a) len
 
 -- One place more at the end.
 pub around-more : (n start len : ℕ) → around n start (len + 1) ≡ around n start len ++ ((start + len) % n ∷ [])

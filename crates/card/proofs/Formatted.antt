@@ -38,6 +38,11 @@ formattable c b n e =
     gather : inLimits b n ≡ true → eqb (length c) (cardLength entryWidth b n) ≡ true → Formattable c b n
     gather l e = record { sizeLow = search tests; sizeHigh = search tests; countLow = search tests; countHigh = search tests; long = eqb-true _ _ e }
 
+-- A refused call of the formatter writes nothing.
+pub formatted-refused : (c : List ℕ) (b n : ℕ) → eqb (formatNumber c b n) 0 ≡ false → formatted c b n ≡ c
+unfolding formatted
+formatted-refused c b n e = rw e
+
 abbrev fresh : ℕ → ℕ → List ℕ
 fresh b n = 1 ∷ b ∷ n ∷ 0 ∷ 0 ∷ 0 ∷ 0 ∷ 0 ∷ []
 

@@ -1,16 +1,16 @@
 -- A question in order is put to a sound card, and the blocks read for it are at most two more than those with a posting to be found.
-use Prim.Native.Nat.{ℕ, zero, suc, _+_, _≤_, _<_}
+use Prim.Native.Nat.{ℕ, zero, suc, _+_, _≤_}
 use native.Mathlib.Omega.{arith}
 use mathlib.Core.Path.{_≡_, refl}
-use mathlib.Core.Bool.{Bool, true, false, _||_, not}
-use mathlib.Core.List.{List, [], _∷_}
-use lib.Dec.{ltb, eqb}
+use mathlib.Core.Bool.{Bool, not}
+use mathlib.Core.List.{List, _∷_}
+use lib.Dec.{eqb}
 use borrow.Author.Tests.{ne-eqb}
 use Rattle.pair.specs.Rank.{rank}
 use Rattle.pair.specs.Rising.{firstOf}
 use Rattle.card.specs.Layout.{boundary, oldPlaces, newPlaces}
 use Rattle.card.specs.Sound.{judged}
-use Rattle.card.proofs.Facts.{Facts, facts}
+use Rattle.card.proofs.Facts.{facts}
 use Rattle.lookup.specs.Found.{questionNumber, blocksRead, holders}
 use Rattle.lookup.proofs.Span.{span-bound, reaches-zero}
 

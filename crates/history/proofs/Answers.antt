@@ -1,0 +1,86 @@
+-- Every answer is right: no number from 1 to 4, a step finished exactly where its history says so, a lookup gave the history's positions.
+use Prim.Native.Nat.{ℕ, zero, suc, _≤_, _<_}
+use mathlib.Core.Path.{_≡_, refl, sym, _∙_, ap}
+use mathlib.Core.Bool.{Bool, true, false, cond, _&&_, not}
+use mathlib.Core.List.{List, [], _∷_, map}
+use native.Mathlib.Omega.{arith}
+use lib.ListN.{length}
+use lib.Seq.{sets}
+use lib.Dec.{eqb, leb}
+use borrow.Author.Tests.{eqb-true}
+use Rattle.pair.specs.Rank.{rank, position, Words}
+use Rattle.pair.specs.Rising.{within, risingFrom, firstOf}
+use Rattle.block.specs.Block.{goesOn}
+use Rattle.card.specs.Layout.{blockSize, live}
+use Rattle.card.specs.Sound.{judged}
+use Rattle.card.proofs.Facts.{facts}
+use Rattle.card.proofs.Live.{live-rising}
+use Rattle.batch.specs.Batch.{batchNumber}
+use Rattle.update.specs.Step.{Step, remains, nextWrite, stepNumber, taken, step}
+use Rattle.update.proofs.Steps.{step-taken, step-refused, step-number}
+use Rattle.lookup.specs.Found.{Lookup, found, questionNumber, lookupNumber, lookup}
+use Rattle.lookup.proofs.Answers.{Asked, lookup-asked, lookup-found, lookup-number}
+use Rattle.lookup.proofs.Positions.{range-rises}
+use Rattle.history.specs.History.{History, toWrite, Event, stepped, cut, looked, restarted, formats, Admitted, Answered, OfWords}
+use Rattle.history.proofs.Keeping.{Keeping, keeping-remains}
+
+-- each number of a list of conditions has the property
+abbrev Numbers : (ℕ → Type 0) → List (Bool × ℕ) → Type 0
+Numbers P [] = Unit {0}
+Numbers P (c ∷ cs) = P (c .1) × Numbers P cs
+
+firstOf-among : (P : ℕ → Type 0) → P 0 → (cs : List (Bool × ℕ)) → Numbers P cs → P (firstOf cs)
+unfolding firstOf
+firstOf-among P z [] n = z
+firstOf-among P z (c ∷ cs) n = go (c .0) (firstOf-among P z cs (n .1))
+  where
+    go : (t : Bool) → P (firstOf cs) → P (cond t (c .1) (firstOf cs))
+    go true h = n .0
+    go false h = h
+
+batch-admitted : (b : List ℕ) → Admitted (batchNumber b)
+unfolding batchNumber Admitted
+batch-admitted b = firstOf-among Admitted refl _ (refl, (refl, (refl, (refl, tt))))
+
+-- No step on a sound card gets 1 to 4.
+pub step-admitted : (c b : List ℕ) → judged c ≡ 0 → Admitted (step c b .number)
+unfolding stepNumber Admitted
+step-admitted c b s = rw (step-number c b) (firstOf-among Admitted refl _ (rw s, (batch-admitted b, (refl, tt))))
+
+-- Nor does a lookup.
+pub lookup-admitted : (c : List ℕ) (t a z : ℕ) (answer : List ℕ) → judged c ≡ 0 → Admitted (lookup c t a z answer .number)
+unfolding lookupNumber questionNumber Admitted
+lookup-admitted c t a z answer s =
+    rw (lookup-number c t a z answer) (firstOf-among Admitted refl _ (firstOf-among Admitted refl _ (rw s, (refl, tt)), (refl, tt)))
+
+-- A step that made the third write finished exactly where the history does not go on.
+pub step-finishes :
+    (c b : List ℕ) (h : History) → Keeping c h → step c b .write ≡ 3 → step c b .finished ≡ not (goesOn (h .size) (toWrite b h))
+unfolding taken
+step-finishes c b h k = go (eqb (stepNumber c b) 0) refl
+  where
+    go : (t : Bool) → eqb (stepNumber c b) 0 ≡ t → step c b .write ≡ 3 → step c b .finished ≡ not (goesOn (h .size) (toWrite b h))
+    go true e = rw (step-taken c b (eqb-true (stepNumber c b) 0 e)) (λ w. rw (w, keeping-remains c b h k, k .size))
+    go false e = rw (step-refused c b e) (λ w. absurd (let z : ⊥ = omega arith in z))
+
+-- A lookup that is not refused gave the positions of its term in the history, rising, and their number.
+pub lookup-gives :
+    (c : List ℕ) (t a z : ℕ) (answer : List ℕ) (h : History) → Keeping c h → z < 4294967296 → lookup c t a z answer .number ≡ 0 →
+    let wanted = map position (within (rank t a) (rank t z) (h .pairs)) in
+    (lookup c t a z answer .answer ≡ sets answer 0 wanted) × (lookup c t a z answer .count ≡ length wanted) × (risingFrom 0 wanted ≡ true)
+unfolding found
+lookup-gives c t a z answer h k hz e =
+    let n : lookupNumber c t a z answer ≡ 0 = sym (lookup-number c t a z answer) ∙ e in
+    let gives = lookup-found c t a z answer n in
+    let same : found c t a z ≡ map position (within (rank t a) (rank t z) (h .pairs)) = ap (λ s. map position (within (rank t a) (rank t z) s)) (k .index) in
+    (ap (λ l. l .answer) gives ∙ ap (sets answer 0) same, ap (λ l. l .count) gives ∙ ap length same,
+      rw (k .index) at (range-rises t a z (live c) (lookup-asked c t a z answer n .fromLow) hz (live-rising c (facts c (k .sound)))))
+
+-- Every answer is right.
+pub answered : (c : List ℕ) (e : Event) (h : History) → Keeping c h → OfWords e → Answered c e h
+unfolding Answered OfWords
+answered c (stepped b) h k w = (step-admitted c b (k .sound), step-finishes c b h k)
+answered c (cut b ws l) h k w = tt
+answered c (looked t a z answer) h k w = (lookup-admitted c t a z answer (k .sound), lookup-gives c t a z answer h k (w .2))
+answered c restarted h k w = tt
+answered c (formats b n) h k w = tt

@@ -1,0 +1,60 @@
+-- A step taken and a step refused.
+use Prim.Native.Nat.{ℕ, zero, suc}
+use mathlib.Core.Path.{_≡_, refl, sym, _∙_, ap}
+use mathlib.Core.Bool.{Bool, true, false, cond, not}
+use mathlib.Core.List.{List, [], _∷_}
+use native.Mathlib.Omega.{arith}
+use lib.Dec.{eqb, eqb·suc-zero}
+use borrow.Author.Tests.{eqb-true, eq-eqb}
+use Rattle.pair.specs.Rising.{firstOf}
+use Rattle.pair.proofs.FirstOf.{passed}
+use Rattle.batch.specs.Batch.{batchNumber}
+use Rattle.card.specs.Sound.{judged}
+use Rattle.update.specs.Step.{Step, remains, crowded, nextWrite, stepNumber, taken, step}
+
+-- what a step that is not refused was given
+pub record Accepted (c b : List ℕ) : Type 0 where
+  pub sound : judged c ≡ 0
+  pub inOrder : batchNumber b ≡ 0
+  pub free : crowded c (remains c b) ≡ false
+
+-- A number handed on is 0 where no number comes out.
+pub handed : (x : ℕ) (cs : List (Bool × ℕ)) → firstOf ((not (eqb x 0), x) ∷ cs) ≡ 0 → (x ≡ 0) × (firstOf cs ≡ 0)
+unfolding firstOf
+handed zero cs e = (refl, e)
+handed (suc n) cs e =
+    let e′ : cond (not (eqb (suc n) 0)) (suc n) (firstOf cs) ≡ 0 = e in
+    absurd (let z : ⊥ = omega (arith, rw (eqb·suc-zero n) at e′) in z)
+
+pub accepted : (c b : List ℕ) → stepNumber c b ≡ 0 → Accepted c b
+unfolding stepNumber
+accepted c b e =
+    let h = handed _ _ e in
+    let i = handed _ _ (h .1) in
+    let j = passed _ _ _ (i .1) in
+    record { sound = h .0; inOrder = i .0; free = j .0 }
+
+pub accepting : (c b : List ℕ) → Accepted c b → stepNumber c b ≡ 0
+unfolding stepNumber firstOf
+accepting c b a = rw (a .sound, a .inOrder, a .free)
+
+-- A step that is not refused makes the next write.
+pub step-taken : (c b : List ℕ) → stepNumber c b ≡ 0 → step c b ≡ taken c (remains c b) (nextWrite c (remains c b))
+unfolding step
+step-taken c b e = rw e
+
+-- A refused step does nothing.
+pub step-refused :
+    (c b : List ℕ) → eqb (stepNumber c b) 0 ≡ false →
+    step c b ≡ record { number = stepNumber c b; write = 0; freed = 0; finished = false; card = c }
+unfolding step
+step-refused c b e = rw e
+
+-- Its number is the step's number, refused or not.
+pub step-number : (c b : List ℕ) → step c b .number ≡ stepNumber c b
+unfolding taken
+step-number c b = go (eqb (stepNumber c b) 0) refl
+  where
+    go : (t : Bool) → eqb (stepNumber c b) 0 ≡ t → step c b .number ≡ stepNumber c b
+    go true e = let z = eqb-true (stepNumber c b) 0 e in ap (λ s. s .number) (step-taken c b z) ∙ sym z
+    go false e = ap (λ s. s .number) (step-refused c b e)
