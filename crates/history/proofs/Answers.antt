@@ -10,6 +10,7 @@ use lib.Dec.{eqb, leb}
 use borrow.Author.Tests.{eqb-true}
 use Rattle.pair.specs.Rank.{rank, position, Words}
 use Rattle.pair.specs.Rising.{within, risingFrom, firstOf}
+use Rattle.pair.proofs.FirstOf.{firstOf-among}
 use Rattle.block.specs.Block.{goesOn}
 use Rattle.card.specs.Layout.{blockSize, live}
 use Rattle.card.specs.Sound.{judged}
@@ -23,20 +24,6 @@ use Rattle.lookup.proofs.Answers.{Asked, lookup-asked, lookup-found, lookup-num
 use Rattle.lookup.proofs.Positions.{range-rises}
 use Rattle.history.specs.History.{History, toWrite, Event, stepped, cut, looked, restarted, formats, Admitted, Answered, OfWords}
 use Rattle.history.proofs.Keeping.{Keeping, keeping-remains}
-
--- each number of a list of conditions has the property
-abbrev Numbers : (ℕ → Type 0) → List (Bool × ℕ) → Type 0
-Numbers P [] = Unit {0}
-Numbers P (c ∷ cs) = P (c .1) × Numbers P cs
-
-firstOf-among : (P : ℕ → Type 0) → P 0 → (cs : List (Bool × ℕ)) → Numbers P cs → P (firstOf cs)
-unfolding firstOf
-firstOf-among P z [] n = z
-firstOf-among P z (c ∷ cs) n = go (c .0) (firstOf-among P z cs (n .1))
-  where
-    go : (t : Bool) → P (firstOf cs) → P (cond t (c .1) (firstOf cs))
-    go true h = n .0
-    go false h = h
 
 batch-admitted : (b : List ℕ) → Admitted (batchNumber b)
 unfolding batchNumber Admitted

@@ -10,10 +10,9 @@ use lib.Dec.{ltb, eqb}
 use borrow.Author.Tests.{ltb-false, eqb-true, eqb-false}
 use Rattle.pair.specs.Rising.{firstOf}
 use Rattle.pair.proofs.Tests.{or-left, or-right}
-use Rattle.pair.proofs.FirstOf.{passed}
+use Rattle.pair.proofs.FirstOf.{passed, handed-on}
 use Rattle.card.specs.Sound.{judged}
 use Rattle.lookup.specs.Found.{found, questionNumber, lookupNumber, Lookup, lookup, blocksRead}
-use Rattle.lookup.proofs.Bound.{handed-on}
 
 -- a question that is not refused
 pub record Asked (c : List ℕ) (t a z : ℕ) : Type 0 where
