@@ -1,13 +1,9 @@
 -- A question in order is put to a sound card, and the blocks read for it are at most two more than those with a posting to be found.
-use Prim.Native.Nat.{ℕ, zero, suc, _+_, _≤_}
+use Prim.Native.Nat.{ℕ, _+_, _≤_}
 use native.Mathlib.Omega.{arith}
-use mathlib.Core.Path.{_≡_, refl}
-use mathlib.Core.Bool.{Bool, not}
-use mathlib.Core.List.{List, _∷_}
-use lib.Dec.{eqb}
-use borrow.Author.Tests.{ne-eqb}
+use mathlib.Core.Path.{_≡_}
+use mathlib.Core.List.{List}
 use Rattle.pair.specs.Rank.{rank}
-use Rattle.pair.specs.Rising.{firstOf}
 use Rattle.pair.proofs.FirstOf.{handed-on}
 use Rattle.card.specs.Layout.{boundary, oldPlaces, newPlaces}
 use Rattle.card.specs.Sound.{judged}

@@ -1,23 +1,23 @@
 -- The configuration write of a step where it goes on and where it finishes: the segments fit, and the live pairs have the due pairs in their place.
-use Prim.Native.Nat.{ℕ, zero, suc, _+_, _-_, _%_, _≤_, _<_}
+use Prim.Native.Nat.{ℕ, _+_, _-_, _≤_, _<_}
 use mathlib.Core.Path.{_≡_, refl, sym, _∙_, ap}
-use mathlib.Core.Bool.{Bool, true, false, cond, _&&_, _||_, not}
-use mathlib.Core.List.{List, [], _∷_, _++_, append-nil, append-assoc}
+use mathlib.Core.Bool.{Bool, true, false, cond, _&&_, not}
+use mathlib.Core.List.{List, [], _∷_, _++_, append-assoc}
 use native.Mathlib.Omega.{arith}
-use lib.ListN.{length, take, drop, getD, take-append-drop}
+use lib.ListN.{length, take, drop, take-append-drop}
 use lib.Dec.{ltb, leb, eqb}
 use borrow.Author.Tests.{leb-false, eqb-false, ne-eqb, lt-ltb}
-use Rattle.pair.specs.Rank.{term, position, Words, Proper}
+use Rattle.pair.specs.Rank.{Proper}
 use Rattle.pair.specs.Rising.{Each, above, atMost, risingFrom, last, any}
 use Rattle.pair.proofs.Tests.{and-left, and-right}
 use Rattle.pair.proofs.Each.{Each-last-cons}
 use Rattle.pair.proofs.Rising.{rising-head, rising-first, rising-second, rising-weaker, rising-last, last-append}
 use Rattle.pair.proofs.Parts.{above-all, above-further}
-use Rattle.block.specs.Block.{pairs, formed, due, goesOn, fitting}
+use Rattle.block.specs.Block.{pairs, due, goesOn}
 use Rattle.block.proofs.Reading.{formed-some}
 use Rattle.block.proofs.Due.{goesOn-some, due-some, due-whole, proper-due, rising-due}
-use Rattle.card.specs.Layout.{word, blockSize, placeCount, oldStart, oldLength, newLength, boundary, place, around, oldPlaces, newPlaces, pairsAt, live}
-use Rattle.card.specs.Sound.{blocksSound, firstReaches, judged}
+use Rattle.card.specs.Layout.{blockSize, placeCount, oldStart, oldLength, boundary, place, around, oldPlaces, newPlaces, pairsAt, live}
+use Rattle.card.specs.Sound.{blocksSound, firstReaches}
 use Rattle.card.proofs.Circle.{around-drop, length-around}
 use Rattle.card.proofs.Facts.{Facts}
 use Rattle.card.proofs.Live.{pairsAt-append, blocksSound-append, live-atMost, live-above}
@@ -108,7 +108,7 @@ module _ (c r : List ℕ) (f : Facts c) (m : Remaining c r) (ready : 0 < length 
           bound = λ h. mark-proper;
           newSound = rw new (grows .sound);
           oldSound = rw left (and-right (blocksSound c (take gone (oldPlaces c))) (blocksSound c (drop gone (oldPlaces c)))
-            (sym (blocksSound-append c (take gone (oldPlaces c)) (drop gone (oldPlaces c))) ∙ ap (blocksSound c) (take-append-drop gone (oldPlaces c)) ∙ f .oldSound));
+              (sym (blocksSound-append c (take gone (oldPlaces c)) (drop gone (oldPlaces c))) ∙ ap (blocksSound c) (take-append-drop gone (oldPlaces c)) ∙ f .oldSound));
           newRising = rw (new, grows .pairs) (grows .rising);
           oldRising = rw left (rising-weaker _ 0 _ (omega arith) (rising-second (pairsAt c (take gone (oldPlaces c))) (pairsAt c (drop gone (oldPlaces c))) 0 (rw parted at (f .oldRising))));
           lastNew = rw (new, grows .pairs, last-append (pairsAt c (newPlaces c)) (due (blockSize c) r) 0) (last-some (due (blockSize c) r) _ 0 some);
@@ -122,8 +122,18 @@ module _ (c r : List ℕ) (f : Facts c) (m : Remaining c r) (ready : 0 < length 
     -- Where it goes on, the due pairs stand between the pairs up to the old boundary and those above the new one.
     pub live-on : live (configuration c r) ≡ atMost (boundary c) (live c) ++ (due (blockSize c) r ++ above mark (live c))
     live-on =
-        rw (configuration-on, configured-live c (oldStart c + gone) (oldLength c - gone) (grown c r) mark f, new, left, grows .pairs, above-spent c mark (oldPlaces c),
-          live-atMost c f, ← above-further (boundary c) mark (pairsAt c (oldPlaces c)) mark-above, ← live-above c f, above-further (boundary c) mark (live c) mark-above)
+        rw (
+          configuration-on,
+          configured-live c (oldStart c + gone) (oldLength c - gone) (grown c r) mark f,
+          new,
+          left,
+          grows .pairs,
+          above-spent c mark (oldPlaces c),
+          live-atMost c f,
+          ← above-further (boundary c) mark (pairsAt c (oldPlaces c)) mark-above,
+          ← live-above c f,
+          above-further (boundary c) mark (live c) mark-above,
+        )
         (append-assoc (pairsAt c (newPlaces c)) (due (blockSize c) r) (above mark (live c)))
 
   module _ (end : goesOn (blockSize c) r ≡ false) where
@@ -170,6 +180,11 @@ module _ (c r : List ℕ) (f : Facts c) (m : Remaining c r) (ready : 0 < length 
     pub live-end : live (configuration c r) ≡ atMost (boundary c) (live c) ++ r
     unfolding around pairsAt
     live-end =
-        rw (configuration-end, configured-live c (oldStart c + oldLength c) (grown c r) 0 0 f, grows .pairs,
-          above-all (pairsAt c (newPlaces c) ++ due (blockSize c) r) 0 0 (omega arith) (grows .rising), live-atMost c f)
+        rw (
+          configuration-end,
+          configured-live c (oldStart c + oldLength c) (grown c r) 0 0 f,
+          grows .pairs,
+          above-all (pairsAt c (newPlaces c) ++ due (blockSize c) r) 0 0 (omega arith) (grows .rising),
+          live-atMost c f,
+        )
         all

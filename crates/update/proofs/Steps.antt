@@ -1,16 +1,15 @@
 -- A step taken and a step refused.
-use Prim.Native.Nat.{ℕ, zero, suc}
+use Prim.Native.Nat.{ℕ}
 use mathlib.Core.Path.{_≡_, refl, sym, _∙_, ap}
-use mathlib.Core.Bool.{Bool, true, false, cond, not}
-use mathlib.Core.List.{List, [], _∷_}
-use native.Mathlib.Omega.{arith}
-use lib.Dec.{eqb, eqb·suc-zero}
-use borrow.Author.Tests.{eqb-true, eq-eqb}
+use mathlib.Core.Bool.{Bool, true, false}
+use mathlib.Core.List.{List}
+use lib.Dec.{eqb}
+use borrow.Author.Tests.{eqb-true}
 use Rattle.pair.specs.Rising.{firstOf}
 use Rattle.pair.proofs.FirstOf.{passed, handed-on}
 use Rattle.batch.specs.Batch.{batchNumber}
 use Rattle.card.specs.Sound.{judged}
-use Rattle.update.specs.Step.{Step, remains, crowded, nextWrite, stepNumber, taken, step}
+use Rattle.update.specs.Step.{remains, crowded, nextWrite, stepNumber, taken, step}
 
 -- what a step that is not refused was given
 pub record Accepted (c b : List ℕ) : Type 0 where
