@@ -1,51 +1,22 @@
 -- A landed configuration write applies the batch to the pairs it moves past, and to no other pair.
-use Prim.Native.Nat.{ℕ, zero, suc, _-_, _≤_, _<_}
+use Prim.Native.Nat.{ℕ, _≤_, _<_}
 use mathlib.Core.Path.{_≡_, refl, sym, ap, _∙_}
-use mathlib.Core.Bool.{Bool, true, false, cond}
-use mathlib.Core.List.{List, [], _∷_, _++_, append-assoc}
+use mathlib.Core.Bool.{Bool, true, false}
+use mathlib.Core.List.{List, _++_, append-assoc}
 use mathlib.Core.Logic.{_⊎_, inl, inr}
-use lib.ListN.{take, drop}
-use lib.Dec.{leb, eqb}
 use native.Mathlib.Omega.{arith}
-use borrow.Author.Tests.{ltb-true, le-leb}
-use Rattle.pair.specs.Rank.{term, Words, Proper}
+use Rattle.pair.specs.Rank.{Words, Proper}
 use Rattle.pair.specs.Rising.{Each, above, atMost, risingFrom, last}
 use Rattle.pair.proofs.Tests.{cond-both}
-use Rattle.pair.proofs.Rising.{rises, rises-from, rising-weaker, rising-head, rising-tail, rising-last, rising-take}
-use Rattle.pair.proofs.Each.{Each-append, Each-imply, Each-take, Each-last}
-use Rattle.pair.proofs.Parts.{atMost-append, above-further, atMost-atMost, above-atMost, above-take, atMost-take, rises-above, above-joined, atMost-joined, atMost-joined-nearer, rising-joined, above-Each, atMost-Each}
+use Rattle.pair.proofs.Rising.{rises, rises-from, rising-weaker, rising-last-above}
+use Rattle.pair.proofs.Each.{Each-append, Each-imply, Each-last}
+use Rattle.pair.proofs.Parts.{atMost-append, atMost-atMost, above-atMost, atMost-take, rises-above, above-joined, atMost-joined, atMost-joined-nearer, rising-joined, above-Each, atMost-Each}
 use Rattle.block.specs.Block.{fitting, due, goesOn}
+use Rattle.block.proofs.Due.{due-some, goesOn-some, rising-due, proper-due}
 use Rattle.batch.specs.Batch.{Update, updates, applied, batchNumber}
 use Rattle.batch.proofs.Meaning.{rises-applied}
-use Rattle.batch.proofs.Local.{above-applied}
 use Rattle.batch.proofs.InOrder.{proper-batch}
 use Rattle.history.specs.History.{History, toWrite, next, landed}
-
--- a block of three words or more takes the first pair
-pub due-some : (size : ℕ) (r : List ℕ) → 3 ≤ size → goesOn size r ≡ true → 1 ≤ fitting size 0 r
-unfolding goesOn fitting
-due-some size [] h g = let l : 0 < 0 = ltb-true 0 0 g in absurd (omega arith)
-due-some size (x ∷ xs) h g = go (eqb (term x) 0)
-  where
-    go : (t : Bool) → 1 ≤ cond (leb (cond t 1 3) size) (suc (fitting (size - cond t 1 3) (term x) xs)) 0
-    go true = rw (le-leb 1 size (omega arith)) (omega arith)
-    go false = rw (le-leb 3 size h) (omega arith)
-
--- where pairs stand beyond the due block, it ends above their start
-pub due-above : (size m : ℕ) (xs : List ℕ) → 3 ≤ size → risingFrom m xs ≡ true → goesOn size xs ≡ true → m < last 0 (due size xs)
-unfolding due goesOn last
-due-above size m [] z r g = let l : 0 < 0 = ltb-true 0 0 (rw (none size) at g) in absurd (omega arith)
-  where
-    none : (n : ℕ) → fitting n 0 [] ≡ 0
-    none n = unfold fitting in refl
-due-above size m (x ∷ xs) z r g = go (fitting size 0 (x ∷ xs)) (due-some size (x ∷ xs) z g)
-  where
-    go : (n : ℕ) → 1 ≤ n → m < last 0 (take n (x ∷ xs))
-    go zero l = absurd (omega arith)
-    go (suc n) l =
-        let a : m < x = rising-head x xs m r in
-        let e : x ≤ last x (take n xs) = rising-last (take n xs) x (rising-take n xs x (rising-tail x xs m r)) in
-        omega arith
 
 -- the pairs that the pass would leave if it finished now: the batch applied above the mark
 unfoldable pub target : List ℕ → History → List ℕ
@@ -75,20 +46,18 @@ module _ (b : List ℕ) (h : History) (r : rises (h .pairs) ≡ true) where
   rising-toWrite-0 : risingFrom 0 (toWrite b h) ≡ true
   rising-toWrite-0 = rising-weaker (toWrite b h) 0 (h .mark) (omega arith) rising-toWrite
 
-  -- D is what R has up to the new mark, and the rest of R is above it
+  -- D is what R has up to the new mark
   pub next-reach : atMost (reach b h) (toWrite b h) ≡ next b h
   unfolding reach next due
   next-reach = atMost-take (fitting (h .size) 0 (toWrite b h)) (toWrite b h) 0 rising-toWrite-0
-
-  pub beyond-reach : above (reach b h) (toWrite b h) ≡ drop (fitting (h .size) 0 (toWrite b h)) (toWrite b h)
-  unfolding reach next due
-  beyond-reach = above-take (fitting (h .size) 0 (toWrite b h)) (toWrite b h) 0 rising-toWrite-0
 
   module _ (z : 3 ≤ h .size) (g : goesOn (h .size) (toWrite b h) ≡ true) where
     -- the new mark is above the old one
     pub mark-rises : h .mark < reach b h
     unfolding reach next
-    mark-rises = due-above (h .size) (h .mark) (toWrite b h) z rising-toWrite g
+    mark-rises =
+        rising-last-above (due (h .size) (toWrite b h)) (h .mark) 0 (due-some (h .size) (toWrite b h) z (goesOn-some (h .size) (toWrite b h) g))
+        (rising-due (h .size) (h .mark) (toWrite b h) rising-toWrite)
 
     -- up to it the target has the pairs up to the old mark, then D
     target-next : atMost (reach b h) (target b h) ≡ atMost (h .mark) (h .pairs) ++ next b h
@@ -108,6 +77,7 @@ module _ (b : List ℕ) (h : History) (r : rises (h .pairs) ≡ true) where
   unfolding landed target
   landed-end g = rw g
 
+-- a configuration write leaves the block size
 pub landed-size : (b : List ℕ) (h : History) → landed b h .size ≡ h .size
 unfolding landed
 landed-size b h = cond-both (λ (g : History). g .size ≡ h .size) (goesOn (h .size) (toWrite b h)) _ _ (λ e. refl) (λ e. refl)
@@ -164,24 +134,6 @@ landed-finishes b h r g =
     rw (landed-end b h (rises-from (h .pairs) 0 r) g)
     (refl, atMost-target b h, above-target b h)
 
--- what remains after a write that goes on is what stood beyond the due block
-pub toWrite-landed : (b : List ℕ) (h : History) → 3 ≤ h .size → risingFrom 0 (h .pairs) ≡ true → goesOn (h .size) (toWrite b h) ≡ true
-    → toWrite b (landed b h) ≡ drop (fitting (h .size) 0 (toWrite b h)) (toWrite b h)
-unfolding toWrite
-toWrite-landed b h z r g =
-    rw (landed-on b h s z g)
-    (above-applied (reach b h) (updates b) _ (h .pairs) (rises-from _ 0 joined) s (above-joined (reach b h) (target b h) (h .pairs))
-    ∙ (sym (above-further (h .mark) (reach b h) (applied (updates b) (h .pairs)) low) ∙ beyond-reach b h s))
-  where
-    s : rises (h .pairs) ≡ true
-    s = rises-from (h .pairs) 0 r
-
-    joined : risingFrom 0 (atMost (reach b h) (target b h) ++ above (reach b h) (h .pairs)) ≡ true
-    joined = rising-joined 0 (reach b h) (target b h) (h .pairs) (omega arith) (rising-target b h r) s
-
-    low : h .mark ≤ reach b h
-    low = let l : h .mark < reach b h = mark-rises b h s z g in omega arith
-
 -- a configuration write leaves pairs, and a pair for a mark, or none
 pub proper-toWrite : (b : List ℕ) (h : History) → Words b → batchNumber b ≡ 0 → Each Proper (h .pairs) → Each Proper (toWrite b h)
 unfolding toWrite
@@ -189,9 +141,10 @@ proper-toWrite b h w o a =
     above-Each Proper (h .mark) (applied (updates b) (h .pairs)) (proper-batch b (h .pairs) w o a)
 
 pub proper-next : (b : List ℕ) (h : History) → Words b → batchNumber b ≡ 0 → Each Proper (h .pairs) → Each Proper (next b h)
-unfolding next due
-proper-next b h w o a = Each-take Proper (fitting (h .size) 0 (toWrite b h)) (toWrite b h) (proper-toWrite b h w o a)
+unfolding next
+proper-next b h w o a = proper-due (h .size) (toWrite b h) (proper-toWrite b h w o a)
 
+-- so are the pairs that it leaves
 pub proper-landed : (b : List ℕ) (h : History) → Words b → batchNumber b ≡ 0 → Each Proper (h .pairs) → Each Proper (landed b h .pairs)
 unfolding landed
 proper-landed b h w o a =
@@ -205,6 +158,7 @@ proper-landed b h w o a =
     below : Each Proper (atMost (h .mark) (h .pairs))
     below = atMost-Each Proper (h .mark) (h .pairs) a
 
+-- and the mark is a pair or none
 pub mark-landed : (b : List ℕ) (h : History) → Words b → batchNumber b ≡ 0 → Each Proper (h .pairs)
     → (landed b h .mark ≡ 0) ⊎ Proper (landed b h .mark)
 unfolding landed

@@ -19,6 +19,7 @@ position-rank t p h = omega arith
 pub rank-term-position : (k : ℕ) → rank (term k) (position k) ≡ k
 rank-term-position k = omega arith
 
+-- a position is a 32-bit word
 pub position-word : (k : ℕ) → position k < 4294967296
 position-word k = omega arith
 

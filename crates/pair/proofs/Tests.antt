@@ -43,6 +43,7 @@ or-intro true b h = refl
 or-intro false b (inl e) = absurd (false≢true e)
 or-intro false b (inr e) = e
 
+-- no test is both true and false
 pub contradiction : {X : Type 0} (a : Bool) → a ≡ true → a ≡ false → X
 contradiction true e f = absurd (true≢false f)
 contradiction false e f = absurd (false≢true e)
@@ -58,6 +59,7 @@ test-ext true b f g = sym (f refl)
 test-ext false true f g = g refl
 test-ext false false f g = refl
 
+-- a choice between equals
 pub cond-same {ℓ} : {A : Type ℓ} (t : Bool) (x : A) → cond t x x ≡ x
 cond-same true x = refl
 cond-same false x = refl
@@ -79,6 +81,7 @@ leb-not-ltb a b = go (leb a b) refl
     go true e = rw (le-ltb b a (leb-true a b e))
     go false e = rw (lt-ltb b a (leb-false a b e))
 
+-- equality is tested either way round
 pub eqb-swap : (a b : ℕ) → eqb a b ≡ eqb b a
 eqb-swap a b =
     test-ext (eqb a b) (eqb b a) (λ e. eq-eqb b a (sym (eqb-true a b e))) (λ e. eq-eqb a b (sym (eqb-true b a e)))
