@@ -43,7 +43,7 @@ around-add n start (suc a) b =
 pub around-drop : (n start d len : ℕ) → d ≤ len → drop d (around n start len) ≡ around n (start + d) (len - d)
 unfolding around
 around-drop n start zero len h = let e : start + zero ≡ start = omega arith in let z : len - zero ≡ len = omega arith in rw (e, z)
-around-drop n start (suc d) zero h = absurd (let z : ⊥ = omega arith in z)
+around-drop n start (suc d) zero h = absurd (omega arith)
 around-drop n start (suc d) (suc len) h =
     let e : start + suc d ≡ start + 1 + d = omega arith in
     let z : suc len - suc d ≡ len - d = omega arith in

@@ -48,7 +48,7 @@ step-finishes c b h k = go (eqb (stepNumber c b) 0) refl
   where
     go : (t : Bool) → eqb (stepNumber c b) 0 ≡ t → step c b .write ≡ 3 → step c b .finished ≡ not (goesOn (h .size) (toWrite b h))
     go true e = rw (step-taken c b (eqb-true (stepNumber c b) 0 e)) (λ w. rw (w, keeping-remains c b h k, k .size))
-    go false e = rw (step-refused c b e) (λ w. absurd (let z : ⊥ = omega arith in z))
+    go false e = rw (step-refused c b e) (λ w. absurd (omega arith))
 
 -- A lookup that is not refused gave the positions of its term in the history, rising, and their number.
 pub lookup-gives :

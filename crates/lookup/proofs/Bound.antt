@@ -7,9 +7,10 @@ use Rattle.pair.specs.Rank.{rank}
 use Rattle.pair.proofs.FirstOf.{handed-on}
 use Rattle.card.specs.Layout.{boundary, oldPlaces, newPlaces}
 use Rattle.card.specs.Sound.{judged}
+use Rattle.card.proofs.Live.{reaches-zero}
 use Rattle.card.proofs.Facts.{facts}
 use Rattle.lookup.specs.Found.{questionNumber, blocksRead, holders}
-use Rattle.lookup.proofs.Span.{span-bound, reaches-zero}
+use Rattle.lookup.proofs.Span.{span-bound}
 
 -- a question in order is put to a sound card
 pub question-sound : (c : List ℕ) (t a z : ℕ) → questionNumber c t a z ≡ 0 → judged c ≡ 0

@@ -12,7 +12,7 @@ use Rattle.pair.proofs.Each.{Each-keep}
 use Rattle.pair.proofs.Rising.{rising-above, rises-from}
 use Rattle.pair.proofs.Parts.{above-append, above-above, above-further, above-none, above-take, above-atMost-none}
 use Rattle.block.specs.Block.{due, goesOn, fitting}
-use Rattle.block.proofs.Due.{rising-due}
+use Rattle.block.proofs.Due.{last-some, rising-due}
 use Rattle.batch.specs.Batch.{Update, updates, applied, batchNumber}
 use Rattle.batch.proofs.InOrder.{rising-batch, proper-batch}
 use Rattle.batch.proofs.Local.{above-applied}
@@ -21,7 +21,7 @@ use Rattle.card.proofs.Facts.{Facts, facts}
 use Rattle.card.proofs.Live.{live-rising, live-proper}
 use Rattle.card.proofs.Parts.{entry}
 use Rattle.update.specs.Step.{remains, duePlace, dueBlock, dueEntry, nextWrite, written, configuration, crowded}
-use Rattle.update.proofs.Configuration.{live-on, nextBoundary-on, mark-above, last-some, some}
+use Rattle.update.proofs.Configuration.{live-on, nextBoundary-on, mark-above, some}
 use Rattle.update.proofs.Frame.{duePlace-alike, dueBlock-alike}
 use Rattle.update.proofs.Grown.{Remaining, Ready}
 use Rattle.update.proofs.Settled.{configuration-sound, configuration-boundary}

@@ -46,7 +46,7 @@ pub three :
     ((0 < length r → Ready c r) → P 3) →
     P (nextWrite c r)
 unfolding nextWrite
-three c [] P first second third = third (λ h. absurd (let z : ⊥ = omega arith in z))
+three c [] P first second third = third (λ h. absurd (omega arith))
 three c (x ∷ xs) P first second third =
     rw (eqb·suc-zero (length xs)) (go (same (place c (duePlace c)) (dueBlock c r)) refl (same (entry c (duePlace c)) (dueEntry r)) refl)
   where
