@@ -1,42 +1,29 @@
 -- Every answer is right: no number from 1 to 4, a step finished exactly where its history says so, a lookup gave the history's positions.
-use Prim.Native.Nat.{ℕ, zero, suc, _≤_, _<_}
+use Prim.Native.Nat.{ℕ, _<_}
 use mathlib.Core.Path.{_≡_, refl, sym, _∙_, ap}
-use mathlib.Core.Bool.{Bool, true, false, cond, _&&_, not}
-use mathlib.Core.List.{List, [], _∷_, map}
+use mathlib.Core.Bool.{Bool, true, false, not}
+use mathlib.Core.List.{List, map}
 use native.Mathlib.Omega.{arith}
 use lib.ListN.{length}
 use lib.Seq.{sets}
-use lib.Dec.{eqb, leb}
+use lib.Dec.{eqb}
 use borrow.Author.Tests.{eqb-true}
-use Rattle.pair.specs.Rank.{rank, position, Words}
-use Rattle.pair.specs.Rising.{within, risingFrom, firstOf}
+use Rattle.pair.specs.Rank.{rank, position}
+use Rattle.pair.specs.Rising.{within, risingFrom}
+use Rattle.pair.proofs.FirstOf.{firstOf-among}
 use Rattle.block.specs.Block.{goesOn}
-use Rattle.card.specs.Layout.{blockSize, live}
+use Rattle.card.specs.Layout.{live}
 use Rattle.card.specs.Sound.{judged}
 use Rattle.card.proofs.Facts.{facts}
 use Rattle.card.proofs.Live.{live-rising}
 use Rattle.batch.specs.Batch.{batchNumber}
-use Rattle.update.specs.Step.{Step, remains, nextWrite, stepNumber, taken, step}
+use Rattle.update.specs.Step.{stepNumber, taken, step}
 use Rattle.update.proofs.Steps.{step-taken, step-refused, step-number}
-use Rattle.lookup.specs.Found.{Lookup, found, questionNumber, lookupNumber, lookup}
-use Rattle.lookup.proofs.Answers.{Asked, lookup-asked, lookup-found, lookup-number}
+use Rattle.lookup.specs.Found.{found, questionNumber, lookupNumber, lookup}
+use Rattle.lookup.proofs.Answers.{lookup-asked, lookup-found, lookup-number}
 use Rattle.lookup.proofs.Positions.{range-rises}
 use Rattle.history.specs.History.{History, toWrite, Event, stepped, cut, looked, restarted, formats, Admitted, Answered, OfWords}
 use Rattle.history.proofs.Keeping.{Keeping, keeping-remains}
-
--- each number of a list of conditions has the property
-abbrev Numbers : (ℕ → Type 0) → List (Bool × ℕ) → Type 0
-Numbers P [] = Unit {0}
-Numbers P (c ∷ cs) = P (c .1) × Numbers P cs
-
-firstOf-among : (P : ℕ → Type 0) → P 0 → (cs : List (Bool × ℕ)) → Numbers P cs → P (firstOf cs)
-unfolding firstOf
-firstOf-among P z [] n = z
-firstOf-among P z (c ∷ cs) n = go (c .0) (firstOf-among P z cs (n .1))
-  where
-    go : (t : Bool) → P (firstOf cs) → P (cond t (c .1) (firstOf cs))
-    go true h = n .0
-    go false h = h
 
 batch-admitted : (b : List ℕ) → Admitted (batchNumber b)
 unfolding batchNumber Admitted
@@ -61,7 +48,7 @@ step-finishes c b h k = go (eqb (stepNumber c b) 0) refl
   where
     go : (t : Bool) → eqb (stepNumber c b) 0 ≡ t → step c b .write ≡ 3 → step c b .finished ≡ not (goesOn (h .size) (toWrite b h))
     go true e = rw (step-taken c b (eqb-true (stepNumber c b) 0 e)) (λ w. rw (w, keeping-remains c b h k, k .size))
-    go false e = rw (step-refused c b e) (λ w. absurd (let z : ⊥ = omega arith in z))
+    go false e = rw (step-refused c b e) (λ w. absurd (omega arith))
 
 -- A lookup that is not refused gave the positions of its term in the history, rising, and their number.
 pub lookup-gives :
@@ -72,9 +59,11 @@ unfolding found
 lookup-gives c t a z answer h k hz e =
     let n : lookupNumber c t a z answer ≡ 0 = sym (lookup-number c t a z answer) ∙ e in
     let gives = lookup-found c t a z answer n in
-    let same : found c t a z ≡ map position (within (rank t a) (rank t z) (h .pairs)) = ap (λ s. map position (within (rank t a) (rank t z) s)) (k .index) in
-    (ap (λ l. l .answer) gives ∙ ap (sets answer 0) same, ap (λ l. l .count) gives ∙ ap length same,
-      rw (k .index) at (range-rises t a z (live c) (lookup-asked c t a z answer n .fromLow) hz (live-rising c (facts c (k .sound)))))
+    let same : found c t a z ≡ map position (within (rank t a) (rank t z) (h .pairs)) = ap (λ s. map position (within (rank t a) (rank t z) s)) (k .index) in (
+      ap (λ l. l .answer) gives ∙ ap (sets answer 0) same,
+      ap (λ l. l .count) gives ∙ ap length same,
+      rw (k .index) at (range-rises t a z (live c) (lookup-asked c t a z answer n .fromLow) hz (live-rising c (facts c (k .sound)))),
+    )
 
 -- Every answer is right.
 pub answered : (c : List ℕ) (e : Event) (h : History) → Keeping c h → OfWords e → Answered c e h

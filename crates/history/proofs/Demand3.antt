@@ -1,10 +1,9 @@
 -- Demand 3: after any list of events on a card just formatted, every answer was right and the card keeps to its history.
-use Prim.Native.Nat.{ℕ, _<_}
-use mathlib.Core.Path.{_≡_, refl, sym, _∙_, ap}
+use Prim.Native.Nat.{ℕ}
+use mathlib.Core.Path.{_≡_}
 use mathlib.Core.List.{List, [], _∷_}
 use native.Mathlib.Omega.{arith}
 use Rattle.pair.specs.Rank.{Words}
-use Rattle.card.specs.Layout.{formatNumber}
 use Rattle.card.specs.Sound.{judged}
 use Rattle.card.proofs.Formatted.{formattable}
 use Rattle.history.specs.History.{History, Event, after, told, Agrees, Holds, AllOfWords, Demand3}

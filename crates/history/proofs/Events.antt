@@ -1,10 +1,10 @@
 -- Every event keeps the card to its history.
-use Prim.Native.Nat.{ℕ, zero, suc, _+_, _≤_, _<_}
-use mathlib.Core.Path.{_≡_, refl, sym, _∙_, ap}
-use mathlib.Core.Bool.{Bool, true, false, cond, _&&_, not}
-use mathlib.Core.List.{List, [], _∷_, _++_}
+use Prim.Native.Nat.{ℕ, _≤_, _<_}
+use mathlib.Core.Path.{_≡_, refl}
+use mathlib.Core.Bool.{Bool, true, false, cond, _&&_}
+use mathlib.Core.List.{List, _++_}
 use native.Mathlib.Omega.{arith}
-use lib.ListN.{length, take, replicate, length-take}
+use lib.ListN.{length, replicate, length-take}
 use lib.Seq.{sets}
 use lib.Dec.{eqb}
 use borrow.Author.Tests.{eqb-true}
@@ -13,7 +13,7 @@ use Rattle.card.specs.Layout.{blockSize, entryWidth, entryAt, placeAt, formatNu
 use Rattle.card.proofs.Bits.{words-take, words-append, words-zeros, words-sets}
 use Rattle.card.proofs.Facts.{Facts, facts}
 use Rattle.card.proofs.Formatted.{formatted-refused}
-use Rattle.update.specs.Step.{Step, remains, duePlace, nextWrite, written, stepNumber, taken, step}
+use Rattle.update.specs.Step.{remains, duePlace, nextWrite, written, stepNumber, taken, step}
 use Rattle.update.proofs.Grown.{Remaining, Ready}
 use Rattle.update.proofs.Next.{remaining}
 use Rattle.update.proofs.Steps.{Accepted, accepted, step-taken, step-refused}
@@ -55,17 +55,17 @@ module _ (c b : List ℕ) (h : History) (k : Keeping c h) (wb : Words b) (z : st
   keeping-cut :
       (ws : List ℕ) (l : Bool) → Words ws →
       Keeping (cond (eqb (nextWrite c r) 1) (sets c (placeAt entryWidth c (duePlace c)) (just (blockSize c) ws))
-        (cond (eqb (nextWrite c r) 2) (sets c (entryAt entryWidth (duePlace c)) (just entryWidth ws)) (cond l (written c r (nextWrite c r)) c)))
+      (cond (eqb (nextWrite c r) 2) (sets c (entryAt entryWidth (duePlace c)) (just entryWidth ws)) (cond l (written c r (nextWrite c r)) c)))
       (cond (eqb (nextWrite c r) 3 && l) (landed b h) h)
   unfolding written
   keeping-cut ws l wd =
       three c r (λ w. Keeping (cond (eqb w 1) (sets c (placeAt entryWidth c (duePlace c)) (just (blockSize c) ws))
-        (cond (eqb w 2) (sets c (entryAt entryWidth (duePlace c)) (just entryWidth ws)) (cond l (written c r w) c)))
-        (cond (eqb w 3 && l) (landed b h) h))
+      (cond (eqb w 2) (sets c (entryAt entryWidth (duePlace c)) (just entryWidth ws)) (cond l (written c r w) c)))
+      (cond (eqb w 3 && l) (landed b h) h))
       (λ some. keeping-alike c _ h k (alike-duePlace c (just (blockSize c) ws) f (length-just (blockSize c) ws))
-        (words-sets (just (blockSize c) ws) c (placeAt entryWidth c (duePlace c)) (k .words) (words-just (blockSize c) ws wd)))
+      (words-sets (just (blockSize c) ws) c (placeAt entryWidth c (duePlace c)) (k .words) (words-just (blockSize c) ws wd)))
       (λ some placed. keeping-alike c _ h k (alike-dueEntry c (just entryWidth ws) f (length-just entryWidth ws))
-        (words-sets (just entryWidth ws) c (entryAt entryWidth (duePlace c)) (k .words) (words-just entryWidth ws wd)))
+      (words-sets (just entryWidth ws) c (entryAt entryWidth (duePlace c)) (k .words) (words-just entryWidth ws wd)))
       (λ ready. go l ready)
     where
       go : (t : Bool) → (0 < length r → Ready c r) → Keeping (cond t (written c r 3) c) (cond t (landed b h) h)

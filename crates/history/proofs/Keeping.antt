@@ -1,12 +1,11 @@
 -- A card keeps to its history: what holds of the two together, before and after each kind of write.
-use Prim.Native.Nat.{ℕ, zero, suc, _+_, _≤_, _<_}
+use Prim.Native.Nat.{ℕ, _<_}
 use mathlib.Core.Path.{_≡_, refl, sym, _∙_, ap}
-use mathlib.Core.Bool.{Bool, true, false, cond, not}
-use mathlib.Core.List.{List, [], _∷_, _++_}
+use mathlib.Core.Bool.{Bool, true, false}
+use mathlib.Core.List.{List}
 use native.Mathlib.Omega.{arith}
 use lib.ListN.{length}
-use Rattle.pair.specs.Rank.{rank, term, position, Words}
-use Rattle.pair.specs.Rising.{above, atMost, last}
+use Rattle.pair.specs.Rank.{term, position, Words}
 use Rattle.pair.proofs.Order.{term-rank, position-rank, rank-term-position}
 use Rattle.block.specs.Block.{due, goesOn}
 use Rattle.card.specs.Layout.{word, blockSize, boundary, live, formatNumber, formatted}
@@ -14,7 +13,6 @@ use Rattle.card.specs.Sound.{judged}
 use Rattle.card.proofs.Facts.{Facts, facts}
 use Rattle.card.proofs.Formatted.{formatted-word, formatted-term, formatted-position, formatted-sound, formatted-live, formatted-words}
 use Rattle.card.proofs.Frame.{Alike, word-alike, live-alike, judged-alike}
-use Rattle.batch.specs.Batch.{updates, applied}
 use Rattle.update.specs.Step.{remains, nextBoundary, configuration, crowded}
 use Rattle.update.proofs.Configuration.{nextBoundary-on, nextBoundary-end, live-on, live-end}
 use Rattle.update.proofs.Grown.{Remaining, Ready}

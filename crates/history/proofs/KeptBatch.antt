@@ -1,5 +1,5 @@
 -- One batch, begun with no pass open and kept: from the first landed finishing write onward the index is the old one with the batch applied.
-use Prim.Native.Nat.{ℕ, zero, suc, _≤_, _<_}
+use Prim.Native.Nat.{ℕ}
 use mathlib.Core.Path.{_≡_, refl, sym, _∙_, ap}
 use mathlib.Core.Bool.{Bool, true, false, cond, _&&_, _||_, not, false≢true, and-true, and-false}
 use mathlib.Core.List.{List, [], _∷_}
@@ -7,21 +7,19 @@ use mathlib.Core.Logic.{_⊎_, inl, inr}
 use native.Mathlib.Omega.{arith}
 use lib.Dec.{eqb}
 use borrow.Author.Tests.{eqb-true, ne-eqb}
-use Rattle.pair.specs.Rank.{Words, term, position}
 use Rattle.pair.specs.Rising.{risingFrom, last}
 use Rattle.pair.proofs.Rising.{rises-from}
-use Rattle.pair.proofs.Tests.{and-left, and-right, or-cases, contradiction}
+use Rattle.pair.proofs.Tests.{and-left, or-cases, contradiction}
 use Rattle.block.specs.Block.{goesOn}
 use Rattle.batch.specs.Batch.{updates, applied, batchNumber}
 use Rattle.batch.proofs.InOrder.{rising-batch}
 use Rattle.batch.proofs.Meaning.{applied-twice}
 use Rattle.card.specs.Layout.{newLength, boundary, around, pairsAt, live, formatNumber}
-use Rattle.card.specs.Sound.{judged}
 use Rattle.card.proofs.Facts.{Facts, facts}
 use Rattle.card.proofs.Live.{live-rising}
-use Rattle.update.specs.Step.{Step, remains, stepNumber, taken, step}
+use Rattle.update.specs.Step.{stepNumber, taken, step}
 use Rattle.update.proofs.Steps.{accepted, step-taken, step-refused}
-use Rattle.history.specs.History.{History, started, toWrite, landed, Event, stepped, cut, looked, restarted, formats, after, told, AllOfWords}
+use Rattle.history.specs.History.{History, toWrite, landed, Event, stepped, cut, looked, restarted, formats, after, told, AllOfWords}
 use Rattle.history.specs.Claims.{Lends, Keeps, ran, finishing, finished, KeptBatch}
 use Rattle.history.proofs.Answers.{step-finishes}
 use Rattle.history.proofs.Events.{keeping-after}
@@ -106,9 +104,11 @@ module _ (b : List ℕ) (o : batchNumber b ≡ 0) where
     where
       Turned : History → Bool → Type 0
       Turned g fin = ((fin ≡ true) × Kept b (applied (updates b) s) g) ⊎ ((fin ≡ false) × Kept b s g)
+
       lands : (t : Bool) → goesOn (h .size) (toWrite b h) ≡ t → Turned (landed b h) (not (goesOn (h .size) (toWrite b h)))
       lands true g = rw g (inr (refl, kept-on b s o r h p g))
       lands false g = rw g (inl (refl, kept-again b s h o r p g))
+
       go : Turned (told c e h) (finishing c e) → (Kept b s (told c e h) → finished (after c e) es ≡ true → live (ran (after c e) es) ≡ applied (updates b) s)
           → live (ran (after c e) es) ≡ applied (updates b) s
       go (inl (fin, p′)) again =
@@ -130,7 +130,9 @@ keptBatch c b es wc wb we s n l fin =
   where
     f : Facts c
     f = facts c s
+
     o : batchNumber b ≡ 0
     o = ordered b es c l fin
+
     r : risingFrom 0 (live c) ≡ true
     r = live-rising c f

@@ -1,19 +1,17 @@
 -- A lookup answered and a lookup refused.
-use Prim.Native.Nat.{ℕ, zero, suc, _≤_}
+use Prim.Native.Nat.{ℕ, _≤_}
 use mathlib.Core.Path.{_≡_, refl, sym, _∙_, ap}
-use mathlib.Core.Bool.{Bool, true, false, cond, _||_, not}
-use mathlib.Core.List.{List, [], _∷_}
+use mathlib.Core.Bool.{Bool, true, false, _||_}
+use mathlib.Core.List.{List}
 use native.Mathlib.Omega.{arith}
 use lib.ListN.{length}
 use lib.Seq.{sets}
 use lib.Dec.{ltb, eqb}
 use borrow.Author.Tests.{ltb-false, eqb-true, eqb-false}
-use Rattle.pair.specs.Rising.{firstOf}
 use Rattle.pair.proofs.Tests.{or-left, or-right}
-use Rattle.pair.proofs.FirstOf.{passed}
+use Rattle.pair.proofs.FirstOf.{passed, handed-on}
 use Rattle.card.specs.Sound.{judged}
-use Rattle.lookup.specs.Found.{found, questionNumber, lookupNumber, Lookup, lookup, blocksRead}
-use Rattle.lookup.proofs.Bound.{handed-on}
+use Rattle.lookup.specs.Found.{found, questionNumber, lookupNumber, lookup, blocksRead}
 
 -- a question that is not refused
 pub record Asked (c : List ℕ) (t a z : ℕ) : Type 0 where

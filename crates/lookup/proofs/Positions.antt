@@ -1,21 +1,16 @@
 -- The positions that a lookup finds rise.
-use Prim.Native.Nat.{ℕ, zero, suc, _+_, _*_, _/_, _%_, _≤_, _<_}
-use mathlib.Core.Path.{_≡_, refl, sym, _∙_, ap}
-use mathlib.Core.Bool.{Bool, true, false, cond, _&&_, _||_, not}
+use Prim.Native.Nat.{ℕ, _≤_, _<_}
+use mathlib.Core.Path.{_≡_, refl}
+use mathlib.Core.Bool.{true, _&&_}
 use mathlib.Core.List.{List, [], _∷_, map}
 use native.Mathlib.Omega.{arith}
-use lib.ListN.{length}
-use lib.Seq.{sets}
-use lib.Dec.{ltb, leb, eqb}
-use borrow.Author.Tests.{leb-true, ltb-false, eqb-true, eqb-false, lt-ltb}
-use Rattle.pair.specs.Rank.{rank, term, position}
-use Rattle.pair.specs.Rising.{Each, keep, within, risingFrom, firstOf}
-use Rattle.pair.proofs.Tests.{and-left, and-right, or-left, or-right}
-use Rattle.pair.proofs.FirstOf.{passed}
+use lib.Dec.{leb}
+use borrow.Author.Tests.{leb-true}
+use Rattle.pair.specs.Rank.{rank, position}
+use Rattle.pair.specs.Rising.{Each, keep, within, risingFrom}
+use Rattle.pair.proofs.Tests.{and-left, and-right}
 use Rattle.pair.proofs.Each.{Each-kept, Each-imply}
 use Rattle.pair.proofs.Rising.{rising-head, rising-tail, rising-cons, rising-keep}
-use Rattle.card.specs.Sound.{judged}
-use Rattle.lookup.specs.Found.{found, questionNumber, lookupNumber, Lookup, lookup, blocksRead}
 
 -- a number in the range of a question
 pub record InRange (a z x : ℕ) : Type 0 where
@@ -56,5 +51,5 @@ range-rises t a z s low high r =
     let kept = keep (λ x. leb (rank t a) x && leb x (rank t z)) s in
     positions-rise t z high kept 0
     (rising-above-all kept 0 (rank t 0) (rising-keep (λ x. leb (rank t a) x && leb x (rank t z)) s 0 r)
-      (Each-imply (InRange (rank t a) (rank t z)) (λ x. rank t 0 < x) (λ x i. omega (arith, i .low)) kept inside))
+    (Each-imply (InRange (rank t a) (rank t z)) (λ x. rank t 0 < x) (λ x i. omega (arith, i .low)) kept inside))
     (Each-imply (InRange (rank t a) (rank t z)) (λ x. x ≤ rank t z) (λ x i. i .high) kept inside)

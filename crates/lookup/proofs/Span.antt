@@ -142,9 +142,3 @@ span-bound c k t a z (i ∷ is) s r h =
         let less : rank t a < firstPair c i = leb-false (firstPair c i) (rank t a) g in
         omega (arith, counted held (holders c k (rank t a) (rank t z) is), above (omega (arith, f .high)))
     go f rest above false u e g = omega arith
-
--- the first of some sound places has a pair above 0
-pub reaches-zero : (c : List ℕ) (is : List ℕ) → blocksSound c is ≡ true → risingFrom 0 (pairsAt c is) ≡ true → firstReaches c 0 is ≡ true
-unfolding firstReaches
-reaches-zero c [] s r = refl
-reaches-zero c (i ∷ is) s r = let f = first c 0 i is s r in f .holds (ltb 0) (lt-ltb 0 (firstPair c i) (f .low))

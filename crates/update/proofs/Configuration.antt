@@ -1,41 +1,32 @@
 -- The configuration write of a step where it goes on and where it finishes: the segments fit, and the live pairs have the due pairs in their place.
-use Prim.Native.Nat.{ℕ, zero, suc, _+_, _-_, _%_, _≤_, _<_}
+use Prim.Native.Nat.{ℕ, _+_, _-_, _≤_, _<_}
 use mathlib.Core.Path.{_≡_, refl, sym, _∙_, ap}
-use mathlib.Core.Bool.{Bool, true, false, cond, _&&_, _||_, not}
-use mathlib.Core.List.{List, [], _∷_, _++_, append-nil, append-assoc}
+use mathlib.Core.Bool.{Bool, true, false, cond, _&&_, not}
+use mathlib.Core.List.{List, [], _∷_, _++_, append-assoc}
 use native.Mathlib.Omega.{arith}
-use lib.ListN.{length, take, drop, getD, take-append-drop}
-use lib.Dec.{ltb, leb, eqb}
-use borrow.Author.Tests.{leb-false, eqb-false, ne-eqb, lt-ltb}
-use Rattle.pair.specs.Rank.{term, position, Words, Proper}
-use Rattle.pair.specs.Rising.{Each, above, atMost, risingFrom, last, any}
-use Rattle.pair.proofs.Tests.{and-left, and-right}
+use lib.ListN.{length, take, drop, take-append-drop}
+use lib.Dec.{leb, eqb}
+use borrow.Author.Tests.{leb-false, eqb-false, ne-eqb}
+use Rattle.pair.specs.Rank.{Proper}
+use Rattle.pair.specs.Rising.{Each, above, atMost, risingFrom, last}
+use Rattle.pair.proofs.Tests.{and-right}
 use Rattle.pair.proofs.Each.{Each-last-cons}
-use Rattle.pair.proofs.Rising.{rising-head, rising-first, rising-second, rising-weaker, rising-last, last-append}
+use Rattle.pair.proofs.Rising.{rising-second, rising-weaker, last-append}
 use Rattle.pair.proofs.Parts.{above-all, above-further}
-use Rattle.block.specs.Block.{pairs, formed, due, goesOn, fitting}
-use Rattle.block.proofs.Reading.{formed-some}
-use Rattle.block.proofs.Due.{goesOn-some, due-some, due-whole, proper-due, rising-due}
-use Rattle.card.specs.Layout.{word, blockSize, placeCount, oldStart, oldLength, newLength, boundary, place, around, oldPlaces, newPlaces, pairsAt, live}
-use Rattle.card.specs.Sound.{blocksSound, firstReaches, judged}
+use Rattle.block.specs.Block.{pairs, due, goesOn}
+use Rattle.block.proofs.Due.{goesOn-some, last-some, due-high, due-some, due-whole, proper-due}
+use Rattle.card.specs.Layout.{blockSize, placeCount, oldStart, oldLength, boundary, around, oldPlaces, newPlaces, pairsAt, live}
+use Rattle.card.specs.Sound.{blocksSound}
 use Rattle.card.proofs.Circle.{around-drop, length-around}
 use Rattle.card.proofs.Facts.{Facts}
-use Rattle.card.proofs.Live.{pairsAt-append, blocksSound-append, live-atMost, live-above}
+use Rattle.card.proofs.Live.{reaches-zero, pairsAt-append, blocksSound-append, live-atMost, live-above}
 use Rattle.update.specs.Step.{spent, configured, nextBoundary, freed, grown, configuration, crowded}
 use Rattle.update.proofs.Configured.{Fit, configured-live}
 use Rattle.update.proofs.Grown.{Remaining, Ready, Grown, growing}
 use Rattle.update.proofs.Spent.{spent-length, spent-reaches, above-spent}
 
-ruleset tests = (and-left, and-right)
-
--- The last of some numbers is one of them.
-pub last-some : (xs : List ℕ) (a b : ℕ) → 0 < length xs → last a xs ≡ last b xs
-unfolding last
-last-some [] a b h = absurd (let z : ⊥ = omega arith in z)
-last-some (x ∷ xs) a b h = refl
-
 proper-last : (xs : List ℕ) (d : ℕ) → 0 < length xs → Each Proper xs → Proper (last d xs)
-proper-last [] d h p = absurd (let z : ⊥ = omega arith in z)
+proper-last [] d h p = absurd (omega arith)
 proper-last (x ∷ xs) d h p = Each-last-cons Proper x xs d p
 
 -- Where no number 8 stands, the segments that the write sets leave a place free.
@@ -46,16 +37,6 @@ unfolding crowded
 uncrowded c r h e =
     let e′ : (not (eqb (length r) 0) && leb (placeCount c) (cond (goesOn (blockSize c) r) (oldLength c - freed c r) 0 + grown c r)) ≡ false = e in
     leb-false (placeCount c) (cond (goesOn (blockSize c) r) (oldLength c - freed c r) 0 + grown c r) (rw (ne-eqb (length r) 0 (λ q. omega arith)) at e′)
-
--- Where the blocks at some places are sound and rising, the first has a pair.
-sound-reaches : (c is : List ℕ) → blocksSound c is ≡ true → risingFrom 0 (pairsAt c is) ≡ true → firstReaches c 0 is ≡ true
-unfolding blocksSound firstReaches pairsAt any
-sound-reaches c [] s h = refl
-sound-reaches c (i ∷ is) s h = go (pairs (place c i)) (formed-some (place c i) (search tests)) (rising-first (pairs (place c i)) (pairsAt c is) 0 h)
-  where
-    go : (xs : List ℕ) → 0 < length xs → risingFrom 0 xs ≡ true → any (ltb 0) xs ≡ true
-    go [] l h = absurd (let z : ⊥ = omega arith in z)
-    go (x ∷ xs) l h = rw (lt-ltb 0 x (rising-head x xs 0 h))
 
 module _ (c r : List ℕ) (f : Facts c) (m : Remaining c r) (ready : 0 < length r → Ready c r) where
   grows : Grown c r
@@ -94,7 +75,7 @@ module _ (c r : List ℕ) (f : Facts c) (m : Remaining c r) (ready : 0 < length 
 
     -- and stands above the old one
     pub mark-above : boundary c ≤ mark
-    mark-above = rw (last-some (due (blockSize c) r) (boundary c) 0 some) at (rising-last (due (blockSize c) r) (boundary c) (rising-due (blockSize c) (boundary c) r (m .rising)))
+    mark-above = due-high (blockSize c) (boundary c) r (omega (arith, f .sizeLow)) (goesOn-some (blockSize c) r on) (m .rising)
 
     parted : pairsAt c (oldPlaces c) ≡ pairsAt c (take gone (oldPlaces c)) ++ pairsAt c (drop gone (oldPlaces c))
     parted = ap (pairsAt c) (sym (take-append-drop gone (oldPlaces c))) ∙ pairsAt-append c (take gone (oldPlaces c)) (drop gone (oldPlaces c))
@@ -108,7 +89,7 @@ module _ (c r : List ℕ) (f : Facts c) (m : Remaining c r) (ready : 0 < length 
           bound = λ h. mark-proper;
           newSound = rw new (grows .sound);
           oldSound = rw left (and-right (blocksSound c (take gone (oldPlaces c))) (blocksSound c (drop gone (oldPlaces c)))
-            (sym (blocksSound-append c (take gone (oldPlaces c)) (drop gone (oldPlaces c))) ∙ ap (blocksSound c) (take-append-drop gone (oldPlaces c)) ∙ f .oldSound));
+              (sym (blocksSound-append c (take gone (oldPlaces c)) (drop gone (oldPlaces c))) ∙ ap (blocksSound c) (take-append-drop gone (oldPlaces c)) ∙ f .oldSound));
           newRising = rw (new, grows .pairs) (grows .rising);
           oldRising = rw left (rising-weaker _ 0 _ (omega arith) (rising-second (pairsAt c (take gone (oldPlaces c))) (pairsAt c (drop gone (oldPlaces c))) 0 (rw parted at (f .oldRising))));
           lastNew = rw (new, grows .pairs, last-append (pairsAt c (newPlaces c)) (due (blockSize c) r) 0) (last-some (due (blockSize c) r) _ 0 some);
@@ -122,8 +103,18 @@ module _ (c r : List ℕ) (f : Facts c) (m : Remaining c r) (ready : 0 < length 
     -- Where it goes on, the due pairs stand between the pairs up to the old boundary and those above the new one.
     pub live-on : live (configuration c r) ≡ atMost (boundary c) (live c) ++ (due (blockSize c) r ++ above mark (live c))
     live-on =
-        rw (configuration-on, configured-live c (oldStart c + gone) (oldLength c - gone) (grown c r) mark f, new, left, grows .pairs, above-spent c mark (oldPlaces c),
-          live-atMost c f, ← above-further (boundary c) mark (pairsAt c (oldPlaces c)) mark-above, ← live-above c f, above-further (boundary c) mark (live c) mark-above)
+        rw (
+          configuration-on,
+          configured-live c (oldStart c + gone) (oldLength c - gone) (grown c r) mark f,
+          new,
+          left,
+          grows .pairs,
+          above-spent c mark (oldPlaces c),
+          live-atMost c f,
+          ← above-further (boundary c) mark (pairsAt c (oldPlaces c)) mark-above,
+          ← live-above c f,
+          above-further (boundary c) mark (live c) mark-above,
+        )
         (append-assoc (pairsAt c (newPlaces c)) (due (blockSize c) r) (above mark (live c)))
 
   module _ (end : goesOn (blockSize c) r ≡ false) where
@@ -153,13 +144,13 @@ module _ (c r : List ℕ) (f : Facts c) (m : Remaining c r) (ready : 0 < length 
     fit-end free =
         record {
           room = omega (arith, room-end free);
-          bound = λ h. absurd (let z : ⊥ = omega arith in z);
+          bound = λ h. absurd (omega arith);
           newSound = refl;
           oldSound = grows .sound;
           newRising = refl;
           oldRising = rw (grows .pairs) (grows .rising);
           lastNew = refl;
-          reaches = sound-reaches c _ (grows .sound) (rw (grows .pairs) (grows .rising));
+          reaches = reaches-zero c _ (grows .sound) (rw (grows .pairs) (grows .rising));
         }
 
     pub configuration-end : configuration c r ≡ configured c (oldStart c + oldLength c) (grown c r) 0 0
@@ -170,6 +161,11 @@ module _ (c r : List ℕ) (f : Facts c) (m : Remaining c r) (ready : 0 < length 
     pub live-end : live (configuration c r) ≡ atMost (boundary c) (live c) ++ r
     unfolding around pairsAt
     live-end =
-        rw (configuration-end, configured-live c (oldStart c + oldLength c) (grown c r) 0 0 f, grows .pairs,
-          above-all (pairsAt c (newPlaces c) ++ due (blockSize c) r) 0 0 (omega arith) (grows .rising), live-atMost c f)
+        rw (
+          configuration-end,
+          configured-live c (oldStart c + oldLength c) (grown c r) 0 0 f,
+          grows .pairs,
+          above-all (pairsAt c (newPlaces c) ++ due (blockSize c) r) 0 0 (omega arith) (grows .rising),
+          live-atMost c f,
+        )
         all

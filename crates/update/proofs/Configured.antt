@@ -1,25 +1,25 @@
 -- The configuration write, for any segments and any boundary.
-use Prim.Native.Nat.{ℕ, zero, suc, _+_, _*_, _-_, _%_, _≤_, _<_}
+use Prim.Native.Nat.{ℕ, zero, suc, _+_, _%_, _<_}
 use mathlib.Core.Path.{_≡_, refl, sym, _∙_, ap}
-use mathlib.Core.Bool.{Bool, true, false, cond, _&&_}
+use mathlib.Core.Bool.{true, cond, _&&_}
 use mathlib.Core.List.{List, [], _∷_, _++_}
 use native.Mathlib.Nat.{mod-lt}
 use native.Mathlib.Omega.{arith}
 use lib.ListN.{length, take, getD}
-use lib.Seq.{sets, length-sets}
+use lib.Seq.{length-sets}
 use lib.Dec.{ltb, eqb, eqb·suc-zero}
 use borrow.Author.Tests.{lt-ltb}
-use Rattle.pair.specs.Rank.{rank, term, position, Words, Proper}
+use Rattle.pair.specs.Rank.{term, position, Words, Proper}
 use Rattle.pair.specs.Rising.{Each, above, risingFrom, last}
 use Rattle.pair.proofs.Each.{Each-all}
 use Rattle.pair.proofs.Order.{rank-term-position, position-word}
-use Rattle.card.specs.Layout.{word, blockSize, placeCount, oldStart, oldLength, newLength, boundary, entryWidth, cardLength, entryAt, placeAt, place, around, oldPlaces, newPlaces, pairsAt, live}
+use Rattle.card.specs.Layout.{word, blockSize, placeCount, oldStart, oldLength, newLength, boundary, entryWidth, entryAt, placeAt, place, around, oldPlaces, newPlaces, pairsAt, live}
 use Rattle.card.specs.Sound.{blocksSound, firstReaches, boundaryWords, judged}
 use Rattle.card.proofs.Bits.{words-sets, words-cons, words-nil}
 use Rattle.card.proofs.Circle.{around-mod, around-mod-add}
-use Rattle.card.proofs.Facts.{Facts, facts, sound}
+use Rattle.card.proofs.Facts.{Facts, sound}
 use Rattle.card.proofs.Frame.{SameAt, pairsAt-alike, blocksSound-alike, firstReaches-alike}
-use Rattle.card.proofs.Parts.{entry, part-sets-after, word-sets-before, word-sets-same}
+use Rattle.card.proofs.Parts.{part-sets-after, word-sets-before, word-sets-same}
 use Rattle.update.specs.Step.{configured}
 
 -- the segments that the write sets, and their boundary, fit the card
@@ -142,4 +142,4 @@ module _ (c : List ℕ) (s o n k : ℕ) (f : Facts c) where
   configured-words w g h =
       words-sets ws c 3 w
       (words-cons _ _ (omega (arith, mod-lt s {m = placeCount c} (omega (arith, f .countLow)), f .countHigh)) (words-cons _ _ (omega (arith, g .room, f .countHigh)) (words-cons _ _ (omega (arith, g .room, f .countHigh))
-        (words-cons _ _ h (words-cons _ _ (position-word k) words-nil)))))
+      (words-cons _ _ h (words-cons _ _ (position-word k) words-nil)))))

@@ -1,13 +1,10 @@
 -- The frame: on cards that differ in free places and their map entries at most, the same remains, and the same step number stands.
-use Prim.Native.Nat.{ℕ, zero, suc, _+_, _-_, _%_}
+use Prim.Native.Nat.{ℕ}
 use mathlib.Core.Path.{_≡_, refl}
-use mathlib.Core.Bool.{Bool, true, false, cond}
 use mathlib.Core.List.{List, [], _∷_}
 use native.Mathlib.Omega.{arith}
-use Rattle.pair.specs.Rising.{Each, any}
-use Rattle.block.specs.Block.{pairs, due, goesOn, blockOf}
-use Rattle.card.specs.Layout.{blockSize, placeCount, oldStart, oldLength, newLength, boundary, place, oldPlaces, live}
-use Rattle.card.specs.Sound.{judged}
+use Rattle.pair.specs.Rising.{Each}
+use Rattle.card.specs.Layout.{blockSize, placeCount, oldStart, oldLength, newLength, oldPlaces}
 use Rattle.card.proofs.Frame.{SameAt, Alike, word-alike, boundary-alike, oldPlaces-alike, live-alike, judged-alike}
 use Rattle.update.specs.Step.{remains, duePlace, spent, nextBoundary, freed, grown, dueBlock, crowded, stepNumber}
 

@@ -1,19 +1,18 @@
 -- The new segment with the due block, once its place and its map entry hold it.
-use Prim.Native.Nat.{ℕ, zero, suc, _+_, _-_, _%_, _≤_, _<_}
-use mathlib.Core.Path.{_≡_, refl, sym, _∙_, ap}
-use mathlib.Core.Bool.{Bool, true, false, cond, _&&_}
+use Prim.Native.Nat.{ℕ, _+_, _≤_, _<_}
+use mathlib.Core.Path.{_≡_, refl, _∙_, ap}
+use mathlib.Core.Bool.{true}
 use mathlib.Core.List.{List, [], _∷_, _++_, append-nil}
 use native.Mathlib.Omega.{arith}
-use lib.ListN.{length, take, drop, getD}
+use lib.ListN.{length, getD}
 use lib.Seq.{getD-take}
-use lib.Dec.{eqb, eqb·suc-zero}
+use lib.Dec.{eqb·suc-zero}
 use borrow.Author.Tests.{eq-eqb}
-use Rattle.pair.specs.Rank.{rank, term, position, Proper}
-use Rattle.pair.specs.Rising.{Each, risingFrom, last}
-use Rattle.pair.proofs.Tests.{and-both}
+use Rattle.pair.specs.Rank.{Proper}
+use Rattle.pair.specs.Rising.{Each, risingFrom}
 use Rattle.pair.proofs.Order.{rank-term-position}
 use Rattle.pair.proofs.Rising.{rising-join, rising-weaker}
-use Rattle.block.specs.Block.{pairs, formed, due, blockOf, fitting}
+use Rattle.block.specs.Block.{pairs, due, fitting}
 use Rattle.block.proofs.Due.{fitting-some, rising-due, pairs-dueBlock, formed-dueBlock}
 use Rattle.card.specs.Layout.{blockSize, placeCount, oldStart, oldLength, newLength, boundary, firstPair, place, around, newPlaces, pairsAt}
 use Rattle.card.specs.Sound.{blocksSound}

@@ -1,19 +1,18 @@
 -- What remains, and the write after a write.
-use Prim.Native.Nat.{ℕ, zero, suc, _+_, _≤_, _<_}
+use Prim.Native.Nat.{ℕ, _≤_, _<_}
 use mathlib.Core.Path.{_≡_, refl, sym, _∙_, ap}
 use mathlib.Core.Bool.{Bool, true, false, cond, not}
-use mathlib.Core.List.{List, [], _∷_, _++_}
+use mathlib.Core.List.{List, [], _∷_}
 use native.Mathlib.Omega.{arith}
-use lib.ListN.{length, take, drop}
-use lib.Dec.{ltb, eqb, eqb·suc-zero}
-use borrow.Author.Tests.{eq-eqb}
+use lib.ListN.{length, drop}
+use lib.Dec.{ltb, eqb·suc-zero}
 use Rattle.pair.specs.Rank.{Words, Proper}
-use Rattle.pair.specs.Rising.{Each, above, keep, atMost, risingFrom, last, same}
+use Rattle.pair.specs.Rising.{above, risingFrom, last, same}
 use Rattle.pair.proofs.Each.{Each-keep}
 use Rattle.pair.proofs.Rising.{rising-above, rises-from}
 use Rattle.pair.proofs.Parts.{above-append, above-above, above-further, above-none, above-take, above-atMost-none}
 use Rattle.block.specs.Block.{due, goesOn, fitting}
-use Rattle.block.proofs.Due.{rising-due}
+use Rattle.block.proofs.Due.{last-some, rising-due}
 use Rattle.batch.specs.Batch.{Update, updates, applied, batchNumber}
 use Rattle.batch.proofs.InOrder.{rising-batch, proper-batch}
 use Rattle.batch.proofs.Local.{above-applied}
@@ -21,8 +20,8 @@ use Rattle.card.specs.Layout.{blockSize, boundary, place, live}
 use Rattle.card.proofs.Facts.{Facts, facts}
 use Rattle.card.proofs.Live.{live-rising, live-proper}
 use Rattle.card.proofs.Parts.{entry}
-use Rattle.update.specs.Step.{remains, duePlace, dueBlock, dueEntry, nextWrite, written, configuration, crowded, nextBoundary}
-use Rattle.update.proofs.Configuration.{live-on, nextBoundary-on, mark-above, last-some, some}
+use Rattle.update.specs.Step.{remains, duePlace, dueBlock, dueEntry, nextWrite, written, configuration, crowded}
+use Rattle.update.proofs.Configuration.{live-on, nextBoundary-on, mark-above, some}
 use Rattle.update.proofs.Frame.{duePlace-alike, dueBlock-alike}
 use Rattle.update.proofs.Grown.{Remaining, Ready}
 use Rattle.update.proofs.Settled.{configuration-sound, configuration-boundary}
@@ -90,29 +89,44 @@ remains-next c b f wc wb e ready free on = opened ∙ local ∙ beyond
   where
     r : List ℕ
     r = remains c b
+
     d : List ℕ
     d = configuration c r
+
     us : List Update
     us = updates b
+
     k : ℕ
     k = last 0 (due (blockSize c) r)
+
     m : Remaining c r
     m = remaining c b f wc wb e
+
     above-mark : boundary c ≤ k
     above-mark = mark-above c r f m ready on
+
     mark-is : last (boundary c) (due (blockSize c) r) ≡ k
     mark-is = last-some (due (blockSize c) r) (boundary c) 0 (some c r f m ready on)
+
     opened : remains d b ≡ above k (applied us (live d))
     opened = remains-is d b k (configuration-boundary c r f m ready free ∙ nextBoundary-on c r f m ready on)
+
     kept : above k (live d) ≡ above k (live c)
     kept =
-        rw (live-on c r f m ready on, above-append, above-append, above-atMost-none (boundary c) k (live c) above-mark,
+        rw (
+          live-on c r f m ready on,
+          above-append,
+          above-append,
+          above-atMost-none (boundary c) k (live c) above-mark,
           above-none (due (blockSize c) r) k (boundary c) (rising-due (blockSize c) (boundary c) r (m .rising)) (omega (arith, mark-is)),
-          above-above k k (live c) (omega arith))
+          above-above k k (live c) (omega arith),
+        )
+
     local : above k (applied us (live d)) ≡ above k (applied us (live c))
     local =
         above-applied k us (live d) (live c) (rises-from (live d) 0 (live-rising d (facts d (configuration-sound c r f m ready free))))
         (rises-from (live c) 0 (live-rising c f)) kept
+
     beyond : above k (applied us (live c)) ≡ drop (fitting (blockSize c) 0 r) r
     beyond =
         sym (above-further (boundary c) k (applied us (live c)) above-mark) ∙ ap (above k) (sym (remains-is c b (boundary c) refl))

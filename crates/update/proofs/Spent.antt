@@ -1,18 +1,17 @@
 -- The leading places with no pair above the boundary.
-use Prim.Native.Nat.{ℕ, zero, suc, _+_, _≤_, _<_}
+use Prim.Native.Nat.{ℕ, suc, _≤_}
 use mathlib.Core.Path.{_≡_, refl, sym, _∙_, ap}
-use mathlib.Core.Bool.{Bool, true, false, cond, _||_}
+use mathlib.Core.Bool.{Bool, true, false, cond}
 use mathlib.Core.List.{List, [], _∷_, _++_}
 use native.Mathlib.Omega.{arith}
-use lib.ListN.{length, take, drop}
+use lib.ListN.{length, drop}
 use lib.Dec.{ltb}
-use Rattle.pair.specs.Rising.{Each, above, keep, any}
+use Rattle.pair.specs.Rising.{above, keep, any}
 use Rattle.pair.proofs.Tests.{or-left, or-right}
 use Rattle.pair.proofs.Parts.{above-append}
 use Rattle.block.specs.Block.{pairs}
 use Rattle.card.specs.Layout.{place, pairsAt}
 use Rattle.card.specs.Sound.{firstReaches}
-use Rattle.card.proofs.Frame.{SameAt}
 use Rattle.update.specs.Step.{spent}
 
 pub spent-length : (c : List ℕ) (k : ℕ) (is : List ℕ) → spent c k is ≤ length is

@@ -1,16 +1,15 @@
 -- A step taken and a step refused.
-use Prim.Native.Nat.{ℕ, zero, suc}
+use Prim.Native.Nat.{ℕ}
 use mathlib.Core.Path.{_≡_, refl, sym, _∙_, ap}
-use mathlib.Core.Bool.{Bool, true, false, cond, not}
-use mathlib.Core.List.{List, [], _∷_}
-use native.Mathlib.Omega.{arith}
-use lib.Dec.{eqb, eqb·suc-zero}
-use borrow.Author.Tests.{eqb-true, eq-eqb}
+use mathlib.Core.Bool.{Bool, true, false}
+use mathlib.Core.List.{List}
+use lib.Dec.{eqb}
+use borrow.Author.Tests.{eqb-true}
 use Rattle.pair.specs.Rising.{firstOf}
-use Rattle.pair.proofs.FirstOf.{passed}
+use Rattle.pair.proofs.FirstOf.{passed, handed-on}
 use Rattle.batch.specs.Batch.{batchNumber}
 use Rattle.card.specs.Sound.{judged}
-use Rattle.update.specs.Step.{Step, remains, crowded, nextWrite, stepNumber, taken, step}
+use Rattle.update.specs.Step.{remains, crowded, nextWrite, stepNumber, taken, step}
 
 -- what a step that is not refused was given
 pub record Accepted (c b : List ℕ) : Type 0 where
@@ -18,19 +17,11 @@ pub record Accepted (c b : List ℕ) : Type 0 where
   pub inOrder : batchNumber b ≡ 0
   pub free : crowded c (remains c b) ≡ false
 
--- A number handed on is 0 where no number comes out.
-pub handed : (x : ℕ) (cs : List (Bool × ℕ)) → firstOf ((not (eqb x 0), x) ∷ cs) ≡ 0 → (x ≡ 0) × (firstOf cs ≡ 0)
-unfolding firstOf
-handed zero cs e = (refl, e)
-handed (suc n) cs e =
-    let e′ : cond (not (eqb (suc n) 0)) (suc n) (firstOf cs) ≡ 0 = e in
-    absurd (let z : ⊥ = omega (arith, rw (eqb·suc-zero n) at e′) in z)
-
 pub accepted : (c b : List ℕ) → stepNumber c b ≡ 0 → Accepted c b
 unfolding stepNumber
 accepted c b e =
-    let h = handed _ _ e in
-    let i = handed _ _ (h .1) in
+    let h = handed-on _ _ e in
+    let i = handed-on _ _ (h .1) in
     let j = passed _ _ _ (i .1) in
     record { sound = h .0; inOrder = i .0; free = j .0 }
 

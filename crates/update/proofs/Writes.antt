@@ -1,28 +1,28 @@
 -- The first two writes: the due block and its map entry, and what a cut leaves in their stead.
-use Prim.Native.Nat.{ℕ, zero, suc, _+_, _*_, _-_, _%_, _≤_, _<_}
+use Prim.Native.Nat.{ℕ, suc, _+_, _≤_, _<_}
 use mathlib.Core.Path.{_≡_, refl, sym, _∙_, ap}
-use mathlib.Core.Bool.{Bool, true, false, cond, _&&_, not, false≢true}
-use mathlib.Core.List.{List, [], _∷_, _++_}
+use mathlib.Core.Bool.{Bool, true, false, cond, not, false≢true}
+use mathlib.Core.List.{List, [], _∷_}
 use native.Mathlib.Nat.{mul-le-mul-right, mul-le-mul-left}
 use native.Mathlib.Omega.{arith}
 use lib.ListN.{length, take, drop, getD}
 use lib.Seq.{sets}
 use lib.Dec.{eqb, eqb·suc-zero}
 use borrow.Author.Tests.{eqb-true, eq-eqb}
-use Rattle.pair.specs.Rank.{term, position, Words, Proper}
+use Rattle.pair.specs.Rank.{Words, Proper}
 use Rattle.pair.specs.Rising.{Each, same}
 use Rattle.pair.proofs.Tests.{and-left, and-right}
 use Rattle.pair.proofs.Each.{Each-getD}
 use Rattle.pair.proofs.Order.{position-word}
 use Rattle.block.proofs.Due.{length-dueBlock, words-dueBlock}
-use Rattle.card.specs.Layout.{blockSize, placeCount, oldStart, oldLength, newLength, entryWidth, entryAt, placeAt, place}
+use Rattle.card.specs.Layout.{blockSize, placeCount, entryWidth, entryAt, placeAt, place}
 use Rattle.card.proofs.Bits.{words-sets, words-cons, words-nil}
 use Rattle.card.proofs.Facts.{Facts}
 use Rattle.card.proofs.Frame.{Alike}
-use Rattle.card.proofs.Free.{Free, due-free, alike-place, alike-entry}
-use Rattle.card.proofs.Parts.{entry, part-sets-before, part-sets-after, part-sets-same, word-sets-before}
+use Rattle.card.proofs.Free.{due-free, alike-place, alike-entry}
+use Rattle.card.proofs.Parts.{entry, part-sets-after, part-sets-same, word-sets-before}
 use Rattle.update.specs.Step.{duePlace, dueBlock, dueEntry, nextWrite, written}
-use Rattle.update.proofs.Grown.{Remaining, Ready}
+use Rattle.update.proofs.Grown.{Ready}
 
 pub same-true : (xs ys : List ℕ) → same xs ys ≡ true → xs ≡ ys
 unfolding same
@@ -46,12 +46,13 @@ pub three :
     ((0 < length r → Ready c r) → P 3) →
     P (nextWrite c r)
 unfolding nextWrite
-three c [] P first second third = third (λ h. absurd (let z : ⊥ = omega arith in z))
+three c [] P first second third = third (λ h. absurd (omega arith))
 three c (x ∷ xs) P first second third =
     rw (eqb·suc-zero (length xs)) (go (same (place c (duePlace c)) (dueBlock c r)) refl (same (entry c (duePlace c)) (dueEntry r)) refl)
   where
     r : List ℕ
     r = x ∷ xs
+
     go : (s : Bool) → same (place c (duePlace c)) (dueBlock c r) ≡ s → (t : Bool) → same (entry c (duePlace c)) (dueEntry r) ≡ t
         → P (cond (not s) 1 (cond (not t) 2 3))
     go false d t e = first (omega arith)
@@ -100,7 +101,7 @@ module _ (c r : List ℕ) (f : Facts c) where
   pub written-second-entry : entry (written c r 2) (duePlace c) ≡ dueEntry r
   unfolding written dueEntry
   written-second-entry =
-      part-sets-same (dueEntry r) c (entryAt entryWidth (duePlace c)) (omega (arith, f .long, due-inside c f))
+      part-sets-same (dueEntry r) c (entryAt entryWidth (duePlace c)) (omega (arith, f .long, mul-le-mul-left {m = suc (duePlace c)} entryWidth (due-inside c f)))
 
   -- and the due place as it was.
   pub written-second-place : place (written c r 2) (duePlace c) ≡ place c (duePlace c)
