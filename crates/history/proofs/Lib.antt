@@ -10,3 +10,4 @@ pub mod Landed
 pub mod PassEnds
 pub mod Removals
 pub mod Sharp
+pub mod SmallCards
