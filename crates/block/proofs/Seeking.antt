@@ -178,7 +178,7 @@ words-entry f (a ∷ b ∷ []) u e = absurd (omega (arith, reads-on (a ∷ b ∷
 words-entry f (a ∷ b ∷ q ∷ ws) u e = rw (reads-on (a ∷ b ∷ q ∷ ws) e .1)
 
 -- a part of a longer part
-take-part : (l : List ℕ) (s k n : ℕ) → s + k ≤ n → take k (drop s (take n l)) ≡ take k (drop s l)
+pub take-part : (l : List ℕ) (s k n : ℕ) → s + k ≤ n → take k (drop s (take n l)) ≡ take k (drop s l)
 take-part l zero k n h = take-take k n l (omega arith)
 take-part l (suc s) k zero h = absurd (omega arith)
 take-part [] (suc s) k (suc n) h = refl

@@ -1,1 +1,2 @@
-// The definitions of this crate; its code follows.
+// Looking up a term in a range of positions.
+pub mod walk; // the blocks that are read, one run of wanted positions after another
