@@ -110,7 +110,7 @@ places-step n p (suc b) h l =
     rw (mod-eq-of-lt l, e, around-mod n (p + 1) b)
 
 -- a block with nothing wanted is passed over; one with something has the run
-run-skip : (c : List ℕ) (f : ℕ → Bool) (i : ℕ) (is : List ℕ) → keep f (pairs (place c i)) ≡ [] → runOf c f (i ∷ is) ≡ runOf c f is
+pub run-skip : (c : List ℕ) (f : ℕ → Bool) (i : ℕ) (is : List ℕ) → keep f (pairs (place c i)) ≡ [] → runOf c f (i ∷ is) ≡ runOf c f is
 unfolding runOf
 run-skip c f i is e = go (keep f (pairs (place c i))) e
   where
@@ -118,7 +118,7 @@ run-skip c f i is e = go (keep f (pairs (place c i))) e
     go [] l = refl
     go (x ∷ xs) l = absurd (let z : suc (length xs) ≡ 0 = ap length l in omega arith)
 
-start-skip : (c : List ℕ) (f : ℕ → Bool) (i : ℕ) (is : List ℕ) → keep f (pairs (place c i)) ≡ [] → runStartOf c f (i ∷ is) ≡ runStartOf c f is
+pub start-skip : (c : List ℕ) (f : ℕ → Bool) (i : ℕ) (is : List ℕ) → keep f (pairs (place c i)) ≡ [] → runStartOf c f (i ∷ is) ≡ runStartOf c f is
 unfolding runStartOf
 start-skip c f i is e = go (keep f (pairs (place c i))) e
   where
