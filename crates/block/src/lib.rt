@@ -25,10 +25,41 @@ const UNFORMED: BlockScan = BlockScan {
     last: 0,
 };
 
+// Up to this many positions are compared without a loop.
+const FEW: usize = 4;
+
+// Whether a few positions rise, as `rises` says of any number.
+fn few_rise(positions: &[u32]) -> bool
+    requires { ⌜ length (now positions) ≤ 4 ⌝ }
+    ensures { λ r. ⌜ r ≡ risingFrom 0 (now (positions .entry)) ⌝ }
+{
+    let count = positions.len();
+    if count == 0 {
+        return true;
+    }
+    let first = positions[0];
+    if count == 1 {
+        return 0 < first;
+    }
+    let second = positions[1];
+    if count == 2 {
+        return (0 < first) & (first < second);
+    }
+    let third = positions[2];
+    if count == 3 {
+        return (0 < first) & (first < second) & (second < third);
+    }
+    let fourth = positions[3];
+    (0 < first) & (first < second) & (second < third) & (third < fourth)
+}
+
 // Whether each position is greater than the one before, and the first greater than 0.
 fn rises(positions: &[u32]) -> bool
     ensures { λ r. ⌜ r ≡ risingFrom 0 (now (positions .entry)) ⌝ }
 {
+    if positions.len() <= FEW {
+        return few_rise(positions);
+    }
     let mut ok = true;
     let mut before: u32 = 0;
     let mut i = 0;

@@ -1,19 +1,17 @@
 -- The frame: cards that differ in free places and their map entries at most answer every question alike.
-use Prim.Native.Nat.{ℕ, zero, suc, _+_}
+use Prim.Native.Nat.{ℕ, _+_}
 use mathlib.Core.Path.{_≡_, refl, _∙_, ap, ap₂}
-use mathlib.Core.Bool.{Bool, true, false, cond, _&&_}
+use mathlib.Core.Bool.{_&&_}
 use mathlib.Core.List.{List, [], _∷_, map}
 use native.Mathlib.Omega.{arith}
-use lib.ListN.{length}
-use lib.Dec.{ltb, leb, eqb}
+use lib.Dec.{ltb, leb}
 use Rattle.pair.specs.Rank.{rank, position}
-use Rattle.pair.specs.Rising.{Each, above, within, any}
+use Rattle.pair.specs.Rising.{Each, above, within}
 use Rattle.block.specs.Block.{pairs}
-use Rattle.card.specs.Layout.{boundary, entryWidth, placeAt, firstPair, place, oldPlaces, newPlaces, live}
-use Rattle.card.specs.Sound.{judged}
+use Rattle.card.specs.Layout.{boundary, entryWidth, placeAt, place, oldPlaces, newPlaces}
 use Rattle.card.proofs.Frame.{SameAt, Alike, word-alike, firstPair-alike, boundary-alike, oldPlaces-alike, newPlaces-alike, live-alike, judged-alike}
 use Rattle.block.specs.Wanted.{wordsBefore}
-use Rattle.lookup.specs.Found.{found, mappedTo, span, blocksRead, questionNumber, lookupNumber, Lookup, lookup, runAt, run, runStartAt, runStart}
+use Rattle.lookup.specs.Found.{found, mappedTo, span, blocksRead, questionNumber, lookupNumber, lookup, runAt, run, runStartAt, runStart}
 
 mappedTo-alike : (c d : List ℕ) (k : ℕ) (is : List ℕ) → Each (SameAt c d) is → mappedTo d k is ≡ mappedTo c k is
 unfolding mappedTo
