@@ -9,14 +9,11 @@ use lib.ListN.{length, getD, length-append, length-map, length-take}
 use lib.Dec.{ltb, leb, eqb}
 use Rattle.pair.specs.Rank.{rank, position, Words}
 use Rattle.pair.specs.Rising.{keep, above, within}
-use Rattle.pair.proofs.FirstOf.{passed}
 use Rattle.pair.proofs.Keep.{keep-append, keep-same, keep-keep, length-keep}
-use Rattle.pair.proofs.Tests.{or-left, or-right}
 use Rattle.block.specs.Block.{pairs}
 use Rattle.block.specs.Wanted.{isWanted, wordsBefore}
 use Rattle.block.proofs.Size.{block-size, length-size}
 use Rattle.card.specs.Layout.{blockSize, placeCount, oldStart, oldLength, newLength, boundary, entryWidth, placeAt, place, around, oldPlaces, newPlaces, pairsAt, live}
-use Rattle.card.specs.Sound.{judged}
 use Rattle.card.proofs.Circle.{length-around}
 use Rattle.card.proofs.Facts.{Facts, facts}
 use Rattle.card.proofs.Live.{place-words}
@@ -24,22 +21,10 @@ use Rattle.lookup.specs.declared.walk.Stretch.{Stretch}
 use Rattle.lookup.specs.declared.walk.Walk.{Walk}
 use Rattle.lookup.specs.Found.{found, span, blocksRead, questionNumber, runAt, run, runStartAt, runStart}
 use Rattle.lookup.specs.Segment.{Segment, spanned, LiveAfter, Opened}
-use Rattle.lookup.specs.Walk.{Shaped, postings, runOf, runStartOf, placesOf, aheadOf, firstRun, firstStart, orElse, orElseAt, ahead, nextRun, nextStart}
-use Rattle.lookup.proofs.Bound.{handed-on, question-sound}
+use Rattle.card.specs.Scan.{Shaped}
+use Rattle.lookup.specs.Walk.{postings, runOf, runStartOf, placesOf, aheadOf, firstRun, firstStart, orElse, orElseAt, ahead, nextRun, nextStart}
+use Rattle.lookup.proofs.Answers.{Asked, asked}
 use Rattle.lookup.proofs.Spanning.{Same, span-most, span-same, span-ready}
-
--- what a question that is not refused asks
-pub record Asked (t a z : ℕ) : Type 0 where
-  pub from : 1 ≤ a
-  pub order : a ≤ z
-
-pub asked : (c : List ℕ) (t a z : ℕ) → questionNumber c t a z ≡ 0 → Asked t a z
-unfolding questionNumber
-asked c t a z e =
-    let p = passed (eqb t 0 || eqb a 0 || ltb z a) 8 [] (handed-on (judged c) _ e .1) .0 in
-    let low : eqb a 0 ≡ false = or-right (eqb t 0) (eqb a 0) (or-left (eqb t 0 || eqb a 0) (ltb z a) p) in
-    let n : (a ≡ 0 → ⊥) = eqb-false a 0 low in
-    record { from = omega arith; order = ltb-false z a (or-right (eqb t 0 || eqb a 0) (ltb z a) p) }
 
 words-same : (f g : ℕ → Bool) → ((x : ℕ) → f x ≡ g x) → (ws : List ℕ) (t n : ℕ) → wordsBefore f ws t n ≡ wordsBefore g ws t n
 unfolding wordsBefore
@@ -120,6 +105,9 @@ few-found c t a z w g =
     length-pairsAt c (newPlaces c) w (g .sizeHigh), length-pairsAt c (oldPlaces c) w (g .sizeHigh),
     length-around (placeCount c) (oldStart c) (oldLength c), length-around (placeCount c) (oldStart c + oldLength c) (newLength c), g .room, g .countHigh))
 
+pub question-facts : (c : List ℕ) (t a z : ℕ) → questionNumber c t a z ≡ 0 → Facts c
+question-facts c t a z e = facts c (asked c t a z e .sound)
+
 pub shaped : (c : List ℕ) → Facts c → Shaped c
 shaped c g = record { sizeHigh = g .sizeHigh; countLow = g .countLow; countHigh = g .countHigh; long = g .long }
 
@@ -168,9 +156,9 @@ module _ (c : List ℕ) (t a z r q : ℕ) (w : Words c) (e : questionNumber c t 
   walk = record { term = t; to = z; new = spanned c (oldStart c + oldLength c) (newLength c) t a z r; old = spanned c (oldStart c) (oldLength c) t a z q }
 
   g : Facts c
-  g = facts c (question-sound c t a z e)
+  g = facts c (asked c t a z e .sound)
 
-  k : Asked t a z
+  k : Asked c t a z
   k = asked c t a z e
 
   f : ℕ → Bool
@@ -180,17 +168,17 @@ module _ (c : List ℕ) (t a z r q : ℕ) (w : Words c) (e : questionNumber c t 
   o = isWanted t q z
 
   new : Same c (isWanted t r z) (newPlaces c) (placesOf c (spanned c (oldStart c + oldLength c) (newLength c) t a z r))
-  new = span-same c (oldStart c + oldLength c) (newLength c) t a z r (new-segment c g) (k .order) (isWanted t r z) (not-below l) (not-above l)
+  new = span-same c (oldStart c + oldLength c) (newLength c) t a z r (new-segment c g) (k .range) (isWanted t r z) (not-below l) (not-above l)
 
   old : Same c (isWanted t q z) (oldPlaces c) (placesOf c (spanned c (oldStart c) (oldLength c) t a z q))
-  old = span-same c (oldStart c) (oldLength c) t a z q (old-segment c g) (k .order) (isWanted t q z) (not-below m) (not-above m)
+  old = span-same c (oldStart c) (oldLength c) t a z q (old-segment c g) (k .range) (isWanted t q z) (not-below m) (not-above m)
 
   -- every new pair from a to z is above 0
   plain : (x : ℕ) → isWanted t r z x ≡ (leb (rank t a) x && leb x (rank t z))
   plain x = l .same x ∙ go (leb (rank t a) x) refl
     where
       go : (s : Bool) → leb (rank t a) x ≡ s → (ltb (rank 0 0) x && (s && leb x (rank t z))) ≡ (s && leb x (rank t z))
-      go true y = let b : rank t a ≤ x = leb-true (rank t a) x y in rw (lt-ltb (rank 0 0) x (omega (arith, k .from)))
+      go true y = let b : rank t a ≤ x = leb-true (rank t a) x y in rw (lt-ltb (rank 0 0) x (omega (arith, k .fromLow)))
       go false y = and-false (ltb (rank 0 0) x)
 
   is-found : ahead c walk ≡ found c t a z
@@ -223,14 +211,14 @@ module _ (c : List ℕ) (t a z r q : ℕ) (w : Words c) (e : questionNumber c t 
       record {
         ready =
             record {
-              new = span-ready c (oldStart c + oldLength c) (newLength c) t a z r (new-segment c g) (k .order);
-              old = span-ready c (oldStart c) (oldLength c) t a z q (old-segment c g) (k .order);
+              new = span-ready c (oldStart c + oldLength c) (newLength c) t a z r (new-segment c g) (k .range);
+              old = span-ready c (oldStart c) (oldLength c) t a z q (old-segment c g) (k .range);
             };
         found = is-found;
         few = rw is-found (few-found c t a z w g);
         blocks = unfold spanned blocksRead in refl;
         most = unfold spanned span in
-            omega (arith, span-most c (oldStart c + oldLength c) (newLength c) t a z r (new-segment c g) (k .order), span-most c (oldStart c) (oldLength c) t a z q (old-segment c g) (k .order), g .room, g .countHigh);
+            omega (arith, span-most c (oldStart c + oldLength c) (newLength c) t a z r (new-segment c g) (k .range), span-most c (oldStart c) (oldLength c) t a z q (old-segment c g) (k .range), g .room, g .countHigh);
         run = is-run;
         start = is-start;
       }

@@ -26,7 +26,7 @@ use Rattle.card.proofs.Circle.{around-drop, around-mod, length-around}
 use Rattle.card.proofs.Live.{pairsAt-append}
 use Rattle.lookup.specs.Found.{mappedTo, span, runAt, runStartAt}
 use Rattle.lookup.specs.Segment.{Segment, spanned}
-use Rattle.lookup.specs.Walk.{Shaped, postings, runOf, runStartOf, placesOf, orElse, orElseAt, Ready}
+use Rattle.lookup.specs.Walk.{runOf, runStartOf, placesOf, orElse, orElseAt, Ready}
 use Rattle.lookup.proofs.Span.{First, first}
 use Rattle.lookup.proofs.Walking.{run-skip, start-skip}
 
@@ -246,3 +246,11 @@ module _ (c : List ℕ) (start len t a z after : ℕ) (g : Segment c start len) 
         within = λ q. unfold spanned in mod-lt (start + skipped) (omega (arith, g .shape .countLow));
         live = rw places (Each-take (λ i. formed (place c i) ≡ true) (read - skipped) (drop skipped is) (Each-drop (λ i. formed (place c i) ≡ true) skipped is (sound-live c is (g .sound))));
       }
+
+-- what the code answers is the span
+pub spanned-is :
+    (c : List ℕ) (start len t a z after : ℕ) {skip read : ℕ} → skip ≡ mappedTo c (rank t a) (around (placeCount c) start len) - 1 →
+    read ≡ mappedTo c (rank t z) (around (placeCount c) start len) →
+    record { place = (start + skip) % placeCount c; blocks = read - skip; after = after } ≡ spanned c start len t a z after
+unfolding spanned span
+spanned-is c start len t a z after e f = rw (e, f)

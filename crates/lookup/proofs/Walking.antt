@@ -23,7 +23,8 @@ use Rattle.lookup.specs.declared.walk.Stretch.{Stretch}
 use Rattle.lookup.specs.declared.walk.Walk.{Walk}
 use Rattle.lookup.specs.declared.walk.StretchRun.{StretchRun}
 use Rattle.lookup.specs.declared.walk.WalkRun.{WalkRun}
-use Rattle.lookup.specs.Walk.{Shaped, isShaped, PlacePart, postings, runOf, runStartOf, placesOf, aheadOf, firstRun, firstStart, Ready, Sought, ahead, blocksOf, orElse, orElseAt, nextRun, nextStart, ReadyWalk, Next}
+use Rattle.card.specs.Scan.{Shaped}
+use Rattle.lookup.specs.Walk.{isShaped, PlacePart, postings, runOf, runStartOf, placesOf, aheadOf, firstRun, firstStart, Ready, Sought, ahead, blocksOf, orElse, orElseAt, nextRun, nextStart, ReadyWalk, Next}
 
 -- the shape of a card
 pub limits : (b n : ℕ) → ((leb b 1024 && leb 2 n) && leb n 1024) ≡ true → (b ≤ 1024) × (2 ≤ n) × (n ≤ 1024)

@@ -13,7 +13,8 @@ use Rattle.card.specs.Sound.{blocksSound}
 use Rattle.lookup.specs.declared.walk.Stretch.{Stretch}
 use Rattle.lookup.specs.declared.walk.Walk.{Walk}
 use Rattle.lookup.specs.Found.{found, mappedTo, span, blocksRead, run, runStart}
-use Rattle.lookup.specs.Walk.{Shaped, ahead, blocksOf, nextRun, nextStart, ReadyWalk}
+use Rattle.card.specs.Scan.{Shaped}
+use Rattle.lookup.specs.Walk.{ahead, blocksOf, nextRun, nextStart, ReadyWalk}
 
 -- the len places from start are sound blocks, rising from block to block
 pub record Segment (c : List ℕ) (start len : ℕ) : Type 0 where

@@ -11,18 +11,13 @@ use Rattle.block.specs.Block.{pairs, formed}
 use Rattle.block.specs.Wanted.{isWanted, wordsBefore}
 use Rattle.block.specs.declared.wanted.Part.{Part}
 use Rattle.card.specs.Layout.{blockSize, placeCount, entryWidth, cardLength, placeAt, place, around, pairsAt}
+use Rattle.card.specs.Scan.{Shaped}
 use Rattle.lookup.specs.declared.walk.Stretch.{Stretch}
 use Rattle.lookup.specs.declared.walk.Walk.{Walk}
 use Rattle.lookup.specs.declared.walk.StretchRun.{StretchRun}
 use Rattle.lookup.specs.declared.walk.WalkRun.{WalkRun}
 
--- the block size and the count of places are within their limits, and the card has the length that they give
-pub record Shaped (c : List ℕ) : Type 0 where
-  pub sizeHigh : blockSize c ≤ 1024
-  pub countLow : 2 ≤ placeCount c
-  pub countHigh : placeCount c ≤ 1024
-  pub long : length c ≡ cardLength entryWidth (blockSize c) (placeCount c)
-
+-- the test of a card's shape
 unfoldable pub isShaped : List ℕ → Bool
 isShaped c =
     cond (ltb (length c) 8) false

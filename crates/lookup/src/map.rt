@@ -3,7 +3,7 @@ ghost use mathlib.Core.Path.{_≡_};
 ghost use Prim.Native.Nat.{_-_, _≤_, _<_};
 ghost use Rattle.card.specs.Layout.{placeCount, firstPair, around};
 ghost use Rattle.lookup.specs.Found.{mappedTo, questionNumber};
-ghost use Rattle.lookup.specs.Walk.{Shaped};
+ghost use Rattle.card.specs.Scan.{Shaped};
 ghost use Rattle.lookup.specs.Segment.{Segment, spanned, LiveAfter, Opened};
 use crate::walk::Stretch;
 use crate::walk::Walk;

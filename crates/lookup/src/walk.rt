@@ -2,7 +2,8 @@
 ghost use mathlib.Core.Path.{_≡_};
 ghost use Prim.Native.Nat.{_<_};
 ghost use Rattle.card.specs.Layout.{placeCount};
-ghost use Rattle.lookup.specs.Walk.{Shaped, isShaped, PlacePart, Sought, Next};
+ghost use Rattle.card.specs.Scan.{Shaped};
+ghost use Rattle.lookup.specs.Walk.{isShaped, PlacePart, Sought, Next};
 use block::wanted::Part;
 
 const CONFIGURATION_WORDS: usize = 8;

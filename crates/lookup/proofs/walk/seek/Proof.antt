@@ -4,7 +4,7 @@ use native.Mathlib.Omega.{arith}
 use mathlib.Core.Path.{_≡_, sym, _∙_}
 use mathlib.Core.Bool.{true, false}
 use borrow.Author.Tests.{not-true, not-false}
-use Rattle.lookup.specs.Walk.{Shaped, isShaped}
+use Rattle.card.specs.Scan.{Shaped}
 use Rattle.lookup.proofs.Walking.{Seeking, shaped-facts, seeking-start, seeking-end, seeking-unshaped, seeking-out, seeking-turn, seeking-hit}
 use borrow.Author.Needs.{needs}
 use Rattle.lookup.proofs.walk.seek.Statement.{statement}
