@@ -27,8 +27,12 @@ counting-turn {c} {v} {w} {n} {r} k x =
     record {
       ready = x .ready (k .ready);
       total =
-          omega (arith, k .total, ap length (x .rest (k .ready)) ∙ length-append (take (r .len) (drop (r .start) c)) (ahead c (r .rest)),
-          length-part c (r .start) (r .len) (x .inside));
+          omega (
+            arith,
+            k .total,
+            ap length (x .rest (k .ready)) ∙ length-append (take (r .len) (drop (r .start) c)) (ahead c (r .rest)),
+            length-part c (r .start) (r .len) (x .inside),
+          );
     }
 
 pub counting-end : {c : List ℕ} {v w : Walk} {n : ℕ} {r : WalkRun} → Counting c v w n → Next c w r → r .len ≡ 0 → n ≡ length (ahead c v)
@@ -85,9 +89,14 @@ pub moving-room :
     {c l now : List ℕ} {v w : Walk} {at : ℕ} {r : WalkRun} → Moving c l v w now at → Next c w r → length (ahead c v) ≤ length l →
     at + r .len ≤ length now
 moving-room {c} {l} {now} {v} {w} {at} {r} k x h =
-    omega (arith, moving-length k, k .count, ap length (k .all) ∙ length-append (k .done) (ahead c w),
-    ap length (x .rest (k .ready)) ∙ length-append (take (r .len) (drop (r .start) c)) (ahead c (r .rest)),
-    length-part c (r .start) (r .len) (x .inside))
+    omega (
+      arith,
+      moving-length k,
+      k .count,
+      ap length (k .all) ∙ length-append (k .done) (ahead c w),
+      ap length (x .rest (k .ready)) ∙ length-append (take (r .len) (drop (r .start) c)) (ahead c (r .rest)),
+      length-part c (r .start) (r .len) (x .inside),
+    )
 
 pub moving-turn :
     {c l now : List ℕ} {v w : Walk} {at : ℕ} {r : WalkRun} {m : List ℕ} → Moving c l v w now at → Next c w r →

@@ -43,8 +43,10 @@ mapped-count c (i ∷ is) j k r =
     and-second true b e = e
     and-second false true e = refl
     and-second false false e = e
+
     tail : (ltb j (firstPair c i) && risingFrom (firstPair c i) (map (firstPair c) is)) ≡ true → risingFrom (firstPair c i) (map (firstPair c) is) ≡ true
     tail e = and-second (ltb j (firstPair c i)) (risingFrom (firstPair c i) (map (firstPair c) is)) e
+
     go :
         (s : Bool) → leb (firstPair c i) k ≡ s → risingFrom (firstPair c i) (map (firstPair c) is) ≡ true →
         mappedTo c k is ≡ length (atMost k (map (firstPair c) is)) →
@@ -149,6 +151,7 @@ live-from {t} {a} {z} {u} {p} h e w o =
         go false y f g k = let n : (u ≡ t → ⊥) = eqb-false u t f in let l : u < t = omega arith in omega arith
         go true false f g k = let n : p < a = leb-false a p g in let l : u ≡ t = eqb-true u t f in omega arith
         go true true f g k = absurd (let z : _≡_ {A = ℕ} 0 1 = cc in omega arith)
+
     before : (x : ℕ) → ltb (rank t (a - 1)) x ≡ leb (rank t a) x
     before x = go (leb (rank t a) x) refl
       where

@@ -77,6 +77,7 @@ module _ (c : List ℕ) (k a z : ℕ) (f : ℕ → Bool) (h : (x : ℕ) → f x 
     where
       g : ℕ → Bool
       g y = ltb k y && leb a y && leb y z
+
       go :
           (ks ls : List ℕ) → ls ≡ ks → runStartAt c k a z is rest ≡ orElseAt (runOf c f is) (runStartOf c f is) rest →
           elim ks [ [] ↦ runStartAt c k a z is rest | x ∷ xs ↦ placeAt entryWidth c i + wordsBefore (λ y. ltb k y && leb a y && leb y z) (place c i) 0 0 ]
@@ -99,11 +100,18 @@ pub few-found : (c : List ℕ) (t a z : ℕ) → Words c → Facts c → length 
 unfolding found live within above
 few-found c t a z w g =
     rw (length-map)
-    (omega (arith, length-keep (λ x. leb (rank t a) x && leb x (rank t z)) (pairsAt c (newPlaces c) ++ keep (ltb (boundary c)) (pairsAt c (oldPlaces c))),
-    length-append (pairsAt c (newPlaces c)) (keep (ltb (boundary c)) (pairsAt c (oldPlaces c))),
-    length-keep (ltb (boundary c)) (pairsAt c (oldPlaces c)),
-    length-pairsAt c (newPlaces c) w (g .sizeHigh), length-pairsAt c (oldPlaces c) w (g .sizeHigh),
-    length-around (placeCount c) (oldStart c) (oldLength c), length-around (placeCount c) (oldStart c + oldLength c) (newLength c), g .room, g .countHigh))
+    (omega (
+      arith,
+      length-keep (λ x. leb (rank t a) x && leb x (rank t z)) (pairsAt c (newPlaces c) ++ keep (ltb (boundary c)) (pairsAt c (oldPlaces c))),
+      length-append (pairsAt c (newPlaces c)) (keep (ltb (boundary c)) (pairsAt c (oldPlaces c))),
+      length-keep (ltb (boundary c)) (pairsAt c (oldPlaces c)),
+      length-pairsAt c (newPlaces c) w (g .sizeHigh),
+      length-pairsAt c (oldPlaces c) w (g .sizeHigh),
+      length-around (placeCount c) (oldStart c) (oldLength c),
+      length-around (placeCount c) (oldStart c + oldLength c) (newLength c),
+      g .room,
+      g .countHigh,
+    ))
 
 pub question-facts : (c : List ℕ) (t a z : ℕ) → questionNumber c t a z ≡ 0 → Facts c
 question-facts c t a z e = facts c (asked c t a z e .sound)
@@ -135,6 +143,7 @@ no-start c f (i ∷ is) e = go (keep f (pairs (place c i))) e (no-start c f is)
   where
     here : ℕ
     here = placeAt entryWidth c i + wordsBefore f (place c i) 0 0
+
     go :
         (ks : List ℕ) → _≡_ {A = List ℕ} (elim ks [ [] ↦ runOf c f is | x ∷ xs ↦ map position (x ∷ xs) ]) [] → (runOf c f is ≡ [] → runStartOf c f is ≡ 0) →
         _≡_ {A = ℕ} (elim ks [ [] ↦ runStartOf c f is | x ∷ xs ↦ here ]) 0

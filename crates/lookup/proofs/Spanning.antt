@@ -141,6 +141,7 @@ start-behind c f (i ∷ is) js e = go (keep f (pairs (place c i))) (start-behind
   where
     here : ℕ
     here = placeAt entryWidth c i + wordsBefore f (place c i) 0 0
+
     go :
         (ks : List ℕ) → runStartOf c f (is ++ js) ≡ runStartOf c f is →
         _≡_ {A = ℕ} (elim ks [ [] ↦ runStartOf c f (is ++ js) | x ∷ xs ↦ here ]) (elim ks [ [] ↦ runStartOf c f is | x ∷ xs ↦ here ])

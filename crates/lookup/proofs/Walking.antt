@@ -84,8 +84,10 @@ place-part {c} {i} {t} {a} {z} {r} s h p =
   where
     n : placeAt entryWidth c i + blockSize c - placeAt entryWidth c i ≡ blockSize c
     n = omega arith
+
     p′ : BlockPart (take (blockSize c) (drop (placeAt entryWidth c i) c)) t a z r
     p′ = rw n at p
+
     long : length (take (blockSize c) (drop (placeAt entryWidth c i) c)) ≤ blockSize c
     long = rw (length-take) (omega arith)
 
@@ -225,6 +227,7 @@ module _ {c : List ℕ} {t z : ℕ} {s : Stretch} {p b : ℕ} {x : Part} (k : Se
     where
       zero-len : x .len ≡ 0
       zero-len = omega arith
+
       none : Ready c s → keep f (pairs (place c p)) ≡ []
       none r = map-nil position (keep f (pairs (place c p))) (sym (rw zero-len at (y .positions (live r .0))))
 
@@ -296,9 +299,12 @@ next-old {c} {w} {r} {q} s h u =
   where
     empty : r .len ≡ 0
     empty = omega arith
+
     run : ReadyWalk c w → firstRun c (w .term) (w .to) (w .new) ≡ []
     run g = sym (rw empty at (s .run (g .new)))
+
     none : ReadyWalk c w → aheadOf c (w .term) (w .to) (w .new) ≡ []
     none g = s .none (g .new) empty
+
     behind : ReadyWalk c w → aheadOf c (w .term) (w .to) (r .rest) ≡ []
     behind g = sym (rw empty at (s .rest (g .new))) ∙ none g

@@ -14,6 +14,7 @@ pub mod walk; // the blocks that are read, one run of wanted positions after ano
 
 // A term is looked up, a position is where the range starts: neither is 0.
 const NO_QUESTION: u32 = 9;
+
 const TOO_FEW_WORDS: u32 = 10;
 
 // A lookup's answer: the number of a refusal, or how many positions were found and how many blocks were read.

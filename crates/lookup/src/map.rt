@@ -10,6 +10,7 @@ use crate::walk::Walk;
 use pair::Pair;
 
 const CONFIGURATION_WORDS: usize = 8;
+
 const ENTRY_WIDTH: usize = 2;
 
 // The rank of a place's map pair.
@@ -56,7 +57,15 @@ fn one_less(n: usize) -> usize
 
 // The blocks that are read of a segment: from the last whose map pair is at most (term, from), or else the first, up to the last whose map pair
 // is at most (term, to).
-fn span(card: &[u32], start: usize, len: usize, term: u32, from: u32, to: u32, after: u32) -> Stretch
+fn span(
+    card: &[u32],
+    start: usize,
+    len: usize,
+    term: u32,
+    from: u32,
+    to: u32,
+    after: u32,
+) -> Stretch
     requires { ⌜ Segment (now card) start len ⌝ }
     requires { ⌜ from ≤ to ⌝ }
     ensures { λ r. ⌜ r ≡ spanned (now (card .entry)) start len term from to after ⌝ }
@@ -66,10 +75,7 @@ fn span(card: &[u32], start: usize, len: usize, term: u32, from: u32, to: u32, a
         term,
         position: from,
     };
-    let last = Pair {
-        term,
-        position: to,
-    };
+    let last = Pair { term, position: to };
     let skipped = one_less(mapped_to(card, start, len, first.rank()));
     let read = mapped_to(card, start, len, last.rank());
     Stretch {
@@ -102,7 +108,15 @@ pub(crate) fn opened(card: &[u32], term: u32, from: u32, to: u32) -> Walk
     let old_len = card[4] as usize;
     let new_len = card[5] as usize;
     let new_after = live_after(term, from, to, 0, 0);
-    let new = span(card, old_start + old_len, new_len, term, from, to, new_after);
+    let new = span(
+        card,
+        old_start + old_len,
+        new_len,
+        term,
+        from,
+        to,
+        new_after,
+    );
     let old_after = live_after(term, from, to, card[6], card[7]);
     let old = span(card, old_start, old_len, term, from, to, old_after);
     Walk { term, to, new, old }

@@ -7,6 +7,7 @@ ghost use Rattle.lookup.specs.Walk.{isShaped, PlacePart, Sought, Next};
 use block::wanted::Part;
 
 const CONFIGURATION_WORDS: usize = 8;
+
 const ENTRY_WIDTH: usize = 2;
 
 // Blocks of one segment: so many places from one on, around the circle. Wanted of them are positions above after.
@@ -51,7 +52,8 @@ fn is_shaped(card: &[u32]) -> bool
     if !fits {
         return false;
     }
-    card.len() == CONFIGURATION_WORDS + ENTRY_WIDTH * places as usize + places as usize * size as usize
+    card.len()
+        == CONFIGURATION_WORDS + ENTRY_WIDTH * places as usize + places as usize * size as usize
 }
 
 // The wanted positions of the block at a place, as a part of the card.
