@@ -2,3 +2,4 @@ pub mod InOrder
 pub mod Local
 pub mod Meaning
 pub mod Merge
+pub mod Records

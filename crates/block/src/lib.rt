@@ -103,6 +103,7 @@ pub fn scan(words: &[u32]) -> BlockScan
     if !reads_on(words, 0) {
         return UNFORMED;
     }
+    let mut ok = true;
     let mut i: usize = 0;
     let mut term: u32 = 0;
     let mut position: u32 = 0;
@@ -110,19 +111,17 @@ pub fn scan(words: &[u32]) -> BlockScan
         let next = words[i];
         let count = words[i + 1] as usize;
         let start = i + 2;
-        let fits = (term < next) & (0 < count) & (count <= words.len() - start);
+        let fits = (0 < count) & (count <= words.len() - start);
         if !fits {
             return UNFORMED;
         }
         let end = start + count;
-        if !rises(&words[start..end]) {
-            return UNFORMED;
-        }
+        ok = ok & (term < next) & rises(&words[start..end]);
         term = next;
         position = words[end - 1];
         i = end;
     }
-    if !is_zero(&words[i..]) {
+    if !(ok & is_zero(&words[i..])) {
         return UNFORMED;
     }
     let first = Pair {

@@ -11,3 +11,4 @@ pub mod PassEnds
 pub mod Removals
 pub mod Sharp
 pub mod SmallCards
+pub mod StepByStep
