@@ -151,12 +151,14 @@ pub record EntryAt (ws : List ℕ) (i u : ℕ) : Type 0 where
 
 entry-at : (ws : List ℕ) (i u : ℕ) → readsOn (drop i ws) ≡ true → formedFrom (drop i ws) u 0 0 ≡ true → EntryAt ws i u
 entry-at ws i u o f =
-    let g = sym (formed-at ws i u o) ∙ f in
-    let first = and-left (fits ws i u && risingFrom 0 (positionsAt ws i)) (formedFrom (drop (i + 2 + getD ws (i + 1) 0) ws) (getD ws i 0) 0 0) g in
+    let rises = risingFrom 0 (positionsAt ws i) in
+    let behind = formedFrom (drop (i + 2 + getD ws (i + 1) 0) ws) (getD ws i 0) 0 0 in
+    let all : (fits ws i && ((ltb u (getD ws i 0) && rises) && behind)) ≡ true = sym (formed-at ws i u o) ∙ f in
+    let rest = and-right (fits ws i) ((ltb u (getD ws i 0) && rises) && behind) all in
     record {
-      fits = entry-fits ws i u (and-left (fits ws i u) (risingFrom 0 (positionsAt ws i)) first) .1;
-      rising = and-right (fits ws i u) (risingFrom 0 (positionsAt ws i)) first;
-      rest = and-right (fits ws i u && risingFrom 0 (positionsAt ws i)) (formedFrom (drop (i + 2 + getD ws (i + 1) 0) ws) (getD ws i 0) 0 0) g;
+      fits = entry-fits ws i (and-left (fits ws i) ((ltb u (getD ws i 0) && rises) && behind) all) .1;
+      rising = and-right (ltb u (getD ws i 0)) rises (and-left (ltb u (getD ws i 0) && rises) behind rest);
+      rest = and-right (ltb u (getD ws i 0) && rises) behind rest;
     }
 
 pairs-entry :

@@ -9,6 +9,7 @@ use crate::taking::count_ahead;
 use crate::walk::next_run;
 
 pub mod map; // the blocks that are read, found by the map
+pub mod reading; // the posting reader's cursor, one posting after another
 pub mod taking; // the wanted positions of a walk counted, and moved to answer words
 pub mod walk; // the blocks that are read, one run of wanted positions after another
 
