@@ -63,7 +63,7 @@ pub fn open_at(card: &[u32], term: u32, from: u32, to: u32) -> Cursor
 
 // The step where no posting of a run is left: on to the next run.
 fn step_over(card: &[u32], number: u32, walk: Walk) -> Step
-    ensures { λ r. ⌜ (at : ℕ) → Stepped (now (card .entry)) (record { number = number; at = at; left = 0; walk = walk }) r ⌝ }
+    ensures { λ r. ⌜ ((at : ℕ) → Stepped (now (card .entry)) (record { number = number; at = at; left = 0; walk = walk }) r) ⌝ }
 {
     let run = next_run(card, walk);
     let start = run.start;
