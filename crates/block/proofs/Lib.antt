@@ -2,5 +2,6 @@ pub mod Due
 pub mod Packing
 pub mod Reading
 pub mod Scanning
+pub mod Seeking
 pub mod Size
 pub mod Walk

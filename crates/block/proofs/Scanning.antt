@@ -71,7 +71,7 @@ entry-fits ws i e =
     let room = leb n (length ws - (i + 2)) in
     (ltb-true _ _ (and-left (ltb 0 n) room e), leb-true _ _ (and-right (ltb 0 n) room e))
 
-formed-at :
+pub formed-at :
     (ws : List ℕ) (i t : ℕ) → readsOn (drop i ws) ≡ true →
     formedFrom (drop i ws) t 0 0
     ≡ (fits ws i && ((ltb t (getD ws i 0) && risingFrom 0 (positionsAt ws i)) && formedFrom (drop (i + 2 + getD ws (i + 1) 0) ws) (getD ws i 0) 0 0))

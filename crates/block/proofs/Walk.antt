@@ -50,7 +50,7 @@ unfolding zeros
 zeros-end {s} {ok} {i} r h = sym (r .rest ∙ rw (drop-of-length-le s h) (and-true ok))
 
 -- the state p of a reading that stands between two entries does not matter
-formed-between : (ws : List ℕ) (t p : ℕ) → formedFrom ws t 0 p ≡ formedFrom ws t 0 0
+pub formed-between : (ws : List ℕ) (t p : ℕ) → formedFrom ws t 0 p ≡ formedFrom ws t 0 0
 unfolding formedFrom
 formed-between [] t p = refl
 formed-between (a ∷ []) t p = refl

@@ -7,6 +7,8 @@ ghost use Rattle.block.specs.Block.{zeros};
 ghost use Rattle.block.specs.Scan.{readsOn, scanned};
 use pair::Pair;
 
+pub mod wanted; // the wanted positions of a term in a block
+
 // The fewest words of an entry: a term, a count and one position.
 const ENTRY_LEAST: usize = 3;
 
