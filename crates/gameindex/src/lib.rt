@@ -2,6 +2,8 @@
 ghost use mathlib.Core.Path.{_≡_};
 ghost use Rattle.card.specs.Layout.{formatNumber, formatted};
 ghost use Rattle.card.specs.Sound.{judged};
+ghost use Rattle.lookup.specs.Found.{lookup};
+use lookup::LookupAnswer;
 
 // Formats a card; the reply is the number, 0 where it is done.
 #[no_mangle]
@@ -17,4 +19,38 @@ pub extern "C" fn gi_judge(card: &[u32]) -> u32
     ensures { λ r. ⌜ r ≡ judged (now (card .entry)) ⌝ }
 {
     card::judge(card)
+}
+
+// Looks a term up; the reply is the number, 0 where it is done. The count of positions and of blocks read go behind the last two references.
+#[no_mangle]
+pub extern "C" fn gi_lookup(
+    card: &[u32],
+    term: u32,
+    from: u32,
+    to: u32,
+    answer: &mut [u32],
+    found: &mut u32,
+    blocks: &mut u32,
+) -> u32
+    ensures { λ r. ⌜ r ≡ lookup (now (card .entry)) term from to (now (answer .entry)) .number ⌝ }
+    ensures { λ r. ⌜ now (answer .exit) ≡ lookup (now (card .entry)) term from to (now (answer .entry)) .answer ⌝ }
+    ensures { λ r. ⌜ now (found .exit) ≡ lookup (now (card .entry)) term from to (now (answer .entry)) .count ⌝ }
+    ensures { λ r. ⌜ now (blocks .exit) ≡ lookup (now (card .entry)) term from to (now (answer .entry)) .blocks ⌝ }
+{
+    let reply = lookup::lookup(card, term, from, to, answer);
+    match reply {
+        LookupAnswer::Refused(number) => {
+            *found = 0;
+            *blocks = 0;
+            number
+        }
+        LookupAnswer::Found {
+            count,
+            blocks: read,
+        } => {
+            *found = count;
+            *blocks = read;
+            0
+        }
+    }
 }
