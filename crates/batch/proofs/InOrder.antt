@@ -14,6 +14,7 @@ use Rattle.pair.proofs.Tests.{and-left, and-right, or-left, or-right, or-cases}
 use Rattle.pair.proofs.Order.{proper-rank, proper-positive}
 use Rattle.pair.proofs.FirstOf.{passed}
 use Rattle.batch.specs.Batch.{Update, updates, anyUpdate, adds, applied, illFormed, falls, batchNumber}
+use Rattle.batch.specs.Search.{OfWords}
 use Rattle.batch.proofs.Meaning.{added, Each-applied, rising-applied}
 
 -- the facts behind the number 0
@@ -91,12 +92,6 @@ formed-facts u e =
         omega arith
 
 -- its words are 32-bit words
-pub record OfWords (u : Update) : Type 0 where
-  pub kindWord : u .kind < 4294967296
-  pub termWord : u .term < 4294967296
-  pub fromWord : u .from < 4294967296
-  pub toWord : u .to < 4294967296
-
 pub words-updates : (b : List ℕ) → Words b → EachUpdate OfWords (updates b)
 unfolding updates Words
 words-updates [] w = tt
