@@ -1,17 +1,17 @@
 -- What a batch that is in order is made of.
-use Prim.Native.Nat.{ℕ, zero, suc, _+_, _*_, _%_, _≤_, _<_}
-use mathlib.Core.Path.{_≡_, refl, sym, ap, _∙_}
-use mathlib.Core.Bool.{Bool, true, false, cond, _&&_, _||_, not, false≢true}
-use mathlib.Core.List.{List, [], _∷_, _++_}
+use Prim.Native.Nat.{ℕ, suc, _*_, _%_, _≤_, _<_}
+use mathlib.Core.Path.{_≡_}
+use mathlib.Core.Bool.{Bool, true, false, _&&_, _||_, not, false≢true}
+use mathlib.Core.List.{List, [], _∷_}
 use mathlib.Core.Logic.{_≢_, _⊎_, inl, inr, ⊎-map}
-use lib.ListN.{length, getD}
-use lib.Dec.{ltb, leb, eqb}
+use lib.ListN.{length}
+use lib.Dec.{ltb, eqb}
 use native.Mathlib.Omega.{arith}
-use borrow.Author.Tests.{ltb-true, ltb-false, eqb-true, eqb-false, not-false, eq-eqb}
+use borrow.Author.Tests.{ltb-false, eqb-true, eqb-false, not-false, eq-eqb}
 use Rattle.pair.specs.Rank.{rank, Words, Proper}
-use Rattle.pair.specs.Rising.{Each, risingFrom, firstOf}
+use Rattle.pair.specs.Rising.{Each, risingFrom}
 use Rattle.pair.proofs.Tests.{and-left, and-right, or-left, or-right, or-cases}
-use Rattle.pair.proofs.Order.{proper-rank, proper-positive}
+use Rattle.pair.proofs.Order.{proper-rank}
 use Rattle.pair.proofs.FirstOf.{passed}
 use Rattle.batch.specs.Batch.{Update, updates, anyUpdate, adds, applied, illFormed, falls, batchNumber}
 use Rattle.batch.specs.Search.{OfWords}
@@ -24,6 +24,7 @@ pub record InOrder (b : List ℕ) : Type 0 where
   pub formed : anyUpdate illFormed (updates b) ≡ false
   pub ordered : falls 0 (updates b) ≡ false
 
+-- a batch with the number 0 is in order
 pub inOrder : (b : List ℕ) → batchNumber b ≡ 0 → InOrder b
 unfolding batchNumber
 inOrder b e =
@@ -43,6 +44,7 @@ abbrev pub EachUpdate : (Update → Type 0) → List Update → Type 0
 EachUpdate P [] = Unit {0}
 EachUpdate P (u ∷ us) = P u × EachUpdate P us
 
+-- a property that implies another, and two properties at once
 pub EachUpdate-imply : (P Q : Update → Type 0) → ((u : Update) → P u → Q u) → (us : List Update) → EachUpdate P us → EachUpdate Q us
 EachUpdate-imply P Q f [] a = tt
 EachUpdate-imply P Q f (u ∷ us) a = (f u (a .0), EachUpdate-imply P Q f us (a .1))
@@ -67,6 +69,7 @@ pub record Formed (u : Update) : Type 0 where
   pub range : u .from ≤ u .to
   pub single : u .kind ≡ 1 → u .from ≡ u .to
 
+-- an update that is not ill formed is well formed
 pub formed-facts : (u : Update) → illFormed u ≡ false → Formed u
 unfolding illFormed
 formed-facts u e =
@@ -91,7 +94,7 @@ formed-facts u e =
         let m : u .from ≤ u .to = ltb-false (u .to) (u .from) (search (or-left, or-right)) in
         omega arith
 
--- its words are 32-bit words
+-- the updates of a batch of 32-bit words have such words
 pub words-updates : (b : List ℕ) → Words b → EachUpdate OfWords (updates b)
 unfolding updates Words
 words-updates [] w = tt
@@ -101,6 +104,7 @@ words-updates (k ∷ t ∷ a ∷ []) w = tt
 words-updates (k ∷ t ∷ a ∷ z ∷ ws) w =
     (record { kindWord = w 0; termWord = w 1; fromWord = w 2; toWord = w 3 }, words-updates ws (λ i. w (suc (suc (suc (suc i))))))
 
+-- the updates of a batch in order are well formed
 pub formed-updates : (b : List ℕ) → batchNumber b ≡ 0 → EachUpdate Formed (updates b)
 formed-updates b e =
     EachUpdate-imply (λ u. illFormed u ≡ false) Formed formed-facts (updates b) (EachUpdate-none illFormed (updates b) (inOrder b e .formed))
@@ -126,6 +130,7 @@ added-positive b e x h =
     added-Each (λ y. 0 < y) (updates b) x
     (EachUpdate-imply Formed (λ u. u .kind ≡ 1 → 0 < rank (u .term) (u .from)) (λ u f i. omega arith) (updates b) (formed-updates b e)) h
 
+-- of 32-bit words, it adds pairs
 pub added-proper : (b : List ℕ) → Words b → batchNumber b ≡ 0 → (x : ℕ) → added (updates b) x ≡ true → Proper x
 added-proper b w e x h =
     added-Each Proper (updates b) x
@@ -137,5 +142,6 @@ added-proper b w e x h =
 pub rising-batch : (b s : List ℕ) → batchNumber b ≡ 0 → risingFrom 0 s ≡ true → risingFrom 0 (applied (updates b) s) ≡ true
 rising-batch b s e r = rising-applied (updates b) s 0 (added-positive b e) r
 
+-- and pairs are left by it
 pub proper-batch : (b s : List ℕ) → Words b → batchNumber b ≡ 0 → Each Proper s → Each Proper (applied (updates b) s)
 proper-batch b s w e a = Each-applied Proper (updates b) s (added-proper b w e) a

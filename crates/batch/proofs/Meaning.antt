@@ -1,10 +1,10 @@
 -- What a batch makes of a set: the set less everything removed, plus everything added.
-use Prim.Native.Nat.{ℕ, zero, suc, _≤_, _<_}
+use Prim.Native.Nat.{ℕ, _<_}
 use mathlib.Core.Path.{_≡_, refl, sym, ap, _∙_}
 use mathlib.Core.Bool.{Bool, true, false, cond, _&&_, _||_, not, or-assoc, and-true}
-use mathlib.Core.List.{List, [], _∷_, _++_}
-use mathlib.Core.Logic.{_⊎_, inl, inr}
-use lib.Dec.{ltb, leb, eqb}
+use mathlib.Core.List.{List, [], _∷_}
+use mathlib.Core.Logic.{inl, inr}
+use lib.Dec.{eqb}
 use borrow.Author.Tests.{eq-eqb}
 use Rattle.pair.specs.Rank.{rank}
 use Rattle.pair.specs.Rising.{Each, keep, risingFrom, insert}
@@ -63,6 +63,7 @@ rises-withAdded (u ∷ us) s r = go (eqb (u .kind) 1) (rises-withAdded us s r)
     go true ih = rises-insert (rank (u .term) (u .from)) (withAdded us s) ih
     go false ih = ih
 
+-- the same with the removals
 pub rises-applied : (us : List Update) (s : List ℕ) → rises s ≡ true → rises (applied us s) ≡ true
 unfolding applied
 rises-applied us s r = rises-keep (λ x. not (withdrawn us x)) (withAdded us s) (rises-withAdded us s r)
@@ -118,6 +119,7 @@ Each-withAdded P (u ∷ us) s f a =
         (f here (or-intro (adds here u) (added us here) (inl (and-both (eqb (u .kind) 1) (eqb here here) e (eq-eqb here here refl))))) ih
     go false e ih = ih
 
+-- the same with the removals
 pub Each-applied : (P : ℕ → Type 0) (us : List Update) (s : List ℕ) → ((x : ℕ) → added us x ≡ true → P x) → Each P s → Each P (applied us s)
 unfolding applied
 Each-applied P us s f a = Each-keep P (λ x. not (withdrawn us x)) (withAdded us s) (Each-withAdded P us s f a)
@@ -140,6 +142,7 @@ withAdded-removals (u ∷ us) s h =
     rw (or-left (eqb (u .kind) 1) (anyUpdate (λ v. eqb (v .kind) 1) us) h)
     (withAdded-removals us s (or-right (eqb (u .kind) 1) (anyUpdate (λ v. eqb (v .kind) 1) us) h))
 
+-- it adds no pair
 pub added-removals : (us : List Update) (x : ℕ) → anyUpdate (λ u. eqb (u .kind) 1) us ≡ false → added us x ≡ false
 unfolding added anyUpdate adds
 added-removals [] x h = refl
@@ -147,6 +150,7 @@ added-removals (u ∷ us) x h =
     rw (or-left (eqb (u .kind) 1) (anyUpdate (λ v. eqb (v .kind) 1) us) h)
     (added-removals us x (or-right (eqb (u .kind) 1) (anyUpdate (λ v. eqb (v .kind) 1) us) h))
 
+-- so the batch applied is what it does not remove
 pub applied-removals : (us : List Update) (s : List ℕ) → anyUpdate (λ u. eqb (u .kind) 1) us ≡ false → applied us s ≡ keep (λ x. not (removed us x)) s
 unfolding applied withdrawn added removed
 applied-removals us s h =

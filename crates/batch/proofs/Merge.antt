@@ -1,17 +1,17 @@
 -- The merge of a set with the additions of a batch, one pair after the other.
 use Prim.Native.Nat.{ℕ, zero, suc, min, _≤_, _<_}
-use mathlib.Core.Path.{_≡_, refl, sym, ap, _∙_}
-use mathlib.Core.Bool.{Bool, true, false, cond, _&&_, _||_, not}
-use mathlib.Core.List.{List, [], _∷_, _++_}
-use mathlib.Core.Logic.{_≢_, _⊎_, inl, inr}
-use lib.ListN.{length, getD}
-use lib.Dec.{ltb, leb, eqb}
+use mathlib.Core.Path.{_≡_, refl, sym, _∙_}
+use mathlib.Core.Bool.{Bool, true, false, cond, _&&_, not}
+use mathlib.Core.List.{List, [], _∷_}
+use mathlib.Core.Logic.{_⊎_, inl, inr}
+use lib.ListN.{getD}
+use lib.Dec.{ltb, eqb}
 use native.Mathlib.Omega.{arith}
-use borrow.Author.Tests.{ltb-true, ltb-false, eqb-true, eqb-false, lt-ltb, le-ltb, eq-eqb, ne-eqb}
+use borrow.Author.Tests.{ltb-true, ltb-false, lt-ltb, le-ltb, eq-eqb, ne-eqb}
 use Rattle.pair.specs.Rank.{rank}
-use Rattle.pair.specs.Rising.{Each, keep, above, risingFrom, insert}
-use Rattle.pair.proofs.Tests.{and-left, and-right, or-left, or-right, compared}
-use Rattle.pair.proofs.Rising.{rises, rises-from, rises-tail}
+use Rattle.pair.specs.Rising.{Each, keep, above, insert}
+use Rattle.pair.proofs.Tests.{and-right, or-left, or-right, compared}
+use Rattle.pair.proofs.Rising.{rises}
 use Rattle.pair.proofs.Keep.{keep-cons}
 use Rattle.pair.proofs.Parts.{above-keep, Each-above, rises-next}
 use Rattle.batch.specs.Batch.{Update, withdrawn, withAdded, applied, falls}
@@ -33,11 +33,13 @@ leastAdded k [] = 0
 leastAdded k (u ∷ us) =
     cond (eqb (u .kind) 1 && ltb k (rank (u .term) (u .from))) (earlier (rank (u .term) (u .from)) (leastAdded k us)) (leastAdded k us)
 
+-- the lesser of a number and none is the number
 pub earlier-none : (a : ℕ) → earlier a 0 ≡ a
 unfolding earlier
 earlier-none zero = refl
 earlier-none (suc a) = refl
 
+-- of two numbers it is the lesser
 pub earlier-left : (a b : ℕ) → 0 < a → a ≤ b → earlier a b ≡ a
 unfolding earlier
 earlier-left zero b p h = absurd (omega arith)
@@ -50,6 +52,7 @@ earlier-right zero b p h = refl
 earlier-right (suc a) zero p h = absurd (omega arith)
 earlier-right (suc a) (suc b) p h = omega arith
 
+-- of three it is the least, however they are taken
 pub earlier-assoc : (a b c : ℕ) → earlier (earlier a b) c ≡ earlier a (earlier b c)
 unfolding earlier
 earlier-assoc zero b c = refl
@@ -57,6 +60,7 @@ earlier-assoc (suc a) zero c = refl
 earlier-assoc (suc a) (suc b) zero = refl
 earlier-assoc (suc a) (suc b) (suc c) = omega arith
 
+-- the first element is the first above k, or is passed over
 pub firstAbove-cons : (k x : ℕ) (xs : List ℕ) → firstAbove k (x ∷ xs) ≡ cond (ltb k x) x (firstAbove k xs)
 unfolding firstAbove above keep
 firstAbove-cons k x xs = go (ltb k x)
@@ -148,6 +152,7 @@ leastAdded-low (u ∷ us) x k h =
     go false e (inl z) = inl z
     go false e (inr l) = inr (omega (arith, low))
 
+-- so the search for the least ends at the first addition above k
 pub leastAdded-first : (u : Update) (us : List Update) (k : ℕ) → falls (rank (u .term) (u .from)) us ≡ false
     → leastAdded k (u ∷ us) ≡ cond (eqb (u .kind) 1 && ltb k (rank (u .term) (u .from))) (rank (u .term) (u .from)) (leastAdded k us)
 unfolding leastAdded

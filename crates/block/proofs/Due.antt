@@ -1,19 +1,20 @@
 -- The due block: the longest beginning that fits, as pairs and as words.
-use Prim.Native.Nat.{ℕ, zero, suc, _+_, _-_, _≤_, _<_}
+use Prim.Native.Nat.{ℕ, _+_, _-_, _≤_, _<_}
 use native.Mathlib.Omega.{arith}
-use mathlib.Core.Path.{_≡_, refl, sym, _∙_, ap}
-use mathlib.Core.Bool.{Bool, true, false, cond, _&&_, not}
+use mathlib.Core.Path.{_≡_, refl, _∙_, ap}
+use mathlib.Core.Bool.{Bool, true, false, cond}
 use mathlib.Core.List.{List, [], _∷_, _++_}
-use lib.ListN.{length, take, drop, getD, length-append, length-take, length-drop, take-append-drop, drop-of-length-le}
+use lib.ListN.{length, take, drop, length-drop, take-append-drop, drop-of-length-le}
 use lib.Seq.{length-take-le, take-all, take-append-add}
-use lib.Dec.{ltb, leb, eqb}
-use borrow.Author.Tests.{ltb-true, ltb-false, lt-ltb, le-ltb, le-leb}
-use Rattle.pair.specs.Rank.{rank, term, position, Words, Proper}
-use Rattle.pair.specs.Rising.{Each, keep, risingFrom}
+use lib.Dec.{eqb}
+use borrow.Author.Tests.{ltb-true, ltb-false, lt-ltb, le-leb}
+use Rattle.pair.specs.Rank.{term, Words, Proper}
+use Rattle.pair.specs.Rising.{Each, above, risingFrom, last}
 use Rattle.pair.proofs.Each.{Each-take}
-use Rattle.pair.proofs.Rising.{rising-take}
+use Rattle.pair.proofs.Rising.{rising-take, rising-first, rising-second, rising-last, last-append}
+use Rattle.pair.proofs.Parts.{above-none}
 use Rattle.block.specs.Block.{pairs, formed, packed, blockOf, cost, fitting, due, goesOn}
-use Rattle.block.proofs.Size.{size, size-packed, size-fitting, size-keep, block-size, fitting-longest, fitting-whole, fitting-length}
+use Rattle.block.proofs.Size.{size, size-packed, size-fitting, fitting-longest, fitting-whole, fitting-length}
 use Rattle.block.proofs.Packing.{pairs-blockOf, length-blockOf, formed-blockOf, words-blockOf}
 
 -- the due pairs cost at most b words
@@ -105,9 +106,25 @@ due-append b xs ys h =
     let split : fitting b 0 (xs ++ ys) ≡ length xs + (fitting b 0 (xs ++ ys) - length xs) = omega arith in
     ap (λ n. take n (xs ++ ys)) split ∙ take-append-add xs ys (fitting b 0 (xs ++ ys) - length xs)
 
--- what removals leave of a block's pairs is all due, whatever follows it
-pub due-kept : (f : ℕ → Bool) (ws rest : List ℕ) → Words ws →
-    due (length ws) (keep f (pairs ws) ++ rest)
-    ≡ keep f (pairs ws) ++ take (fitting (length ws) 0 (keep f (pairs ws) ++ rest) - length (keep f (pairs ws))) rest
-due-kept f ws rest w =
-    due-append (length ws) (keep f (pairs ws)) rest (omega (arith, size-keep f 0 (pairs ws), block-size ws w))
+-- the last of a list with an element is the same whatever stands for none
+pub last-some : (ks : List ℕ) (d e : ℕ) → 0 < length ks → last d ks ≡ last e ks
+unfolding last
+last-some [] d e h = absurd (omega arith)
+last-some (k ∷ ks) d e h = refl
+
+-- the last due pair lies above where what remains starts
+pub due-high : (b k : ℕ) (r : List ℕ) → 3 ≤ b → 0 < length r → risingFrom k r ≡ true → k ≤ last 0 (due b r)
+due-high b k r h l s = rw (last-some (due b r) 0 k (due-some b r h l)) (rising-last (due b r) k (rising-due b k r s))
+
+-- of pairs that fit none lies above the last due pair, whatever follows them
+pub due-covers : (b k : ℕ) (xs ys : List ℕ) → 3 ≤ b → size 0 xs ≤ b → 0 < length (xs ++ ys) → risingFrom k (xs ++ ys) ≡ true →
+    above (last 0 (due b (xs ++ ys))) xs ≡ []
+due-covers b k xs ys h f l s = above-none xs (last 0 (due b (xs ++ ys))) k (rising-first xs ys k s) high
+  where
+    zs : List ℕ
+    zs = take (fitting b 0 (xs ++ ys) - length xs) ys
+
+    high : last k xs ≤ last 0 (due b (xs ++ ys))
+    high =
+        rw (last-some (due b (xs ++ ys)) 0 k (due-some b (xs ++ ys) h l), due-append b xs ys f, last-append)
+        (rising-last zs (last k xs) (rising-second xs zs k (rw (due-append b xs ys f) at (rising-due b k (xs ++ ys) s))))

@@ -1,18 +1,18 @@
 -- Pairs packed into the words of a block: they read back as the pairs, and the block is well formed.
-use Prim.Native.Nat.{ℕ, zero, suc, _+_, _-_, _≤_, _<_}
+use Prim.Native.Nat.{ℕ, zero, suc, _-_, _≤_, _<_}
 use native.Mathlib.Omega.{arith}
-use mathlib.Core.Path.{_≡_, refl, sym, _∙_, ap}
-use mathlib.Core.Bool.{Bool, true, false, cond, _&&_, not}
+use mathlib.Core.Path.{_≡_, refl}
+use mathlib.Core.Bool.{Bool, true, false, cond}
 use mathlib.Core.List.{List, [], _∷_, _++_}
-use lib.ListN.{length, take, drop, getD, replicate, length-append, length-replicate}
-use lib.Dec.{ltb, leb, eqb}
-use borrow.Author.Tests.{ltb-true, lt-ltb, eqb-true, eqb-false, ne-eqb, eq-eqb}
+use lib.ListN.{length, take, replicate, length-append, length-replicate}
+use lib.Dec.{ltb, eqb}
+use borrow.Author.Tests.{ltb-true, lt-ltb, eqb-true, eqb-false, ne-eqb}
 use Rattle.pair.specs.Rank.{rank, term, position, Words, Proper}
 use Rattle.pair.specs.Rising.{Each, risingFrom}
 use Rattle.pair.proofs.Order.{rank-term-position}
-use Rattle.pair.proofs.Tests.{and-left, and-right, and-both}
-use Rattle.block.specs.Block.{zeros, pairsFrom, pairs, formedFrom, formed, leading, packedAfter, packed, blockOf, fitting, due}
-use Rattle.block.proofs.Size.{size, size-packed, length-size, size-fitting, fitting-longest}
+use Rattle.pair.proofs.Tests.{and-left, and-right}
+use Rattle.block.specs.Block.{zeros, pairsFrom, pairs, formedFrom, formed, leading, packedAfter, packed, blockOf}
+use Rattle.block.proofs.Size.{size, size-packed, length-size}
 
 pairs-zeros : (m t : ℕ) → pairsFrom (replicate m 0) t 0 ≡ []
 unfolding pairsFrom

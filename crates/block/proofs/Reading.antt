@@ -1,13 +1,13 @@
 -- What the words of a well-formed block read as: pairs, rising, at least one.
-use Prim.Native.Nat.{ℕ, zero, suc, _+_, _-_, _≤_, _<_}
+use Prim.Native.Nat.{ℕ, zero, suc, _≤_, _<_}
 use native.Mathlib.Omega.{arith}
-use mathlib.Core.Path.{_≡_, refl, sym, _∙_, ap}
+use mathlib.Core.Path.{_≡_, refl, sym}
 use mathlib.Core.Bool.{Bool, true, false, cond, _&&_, not, true≢false}
-use mathlib.Core.List.{List, [], _∷_, _++_}
-use lib.ListN.{length, take, drop, getD}
-use lib.Dec.{ltb, leb, eqb}
-use borrow.Author.Tests.{ltb-true, lt-ltb, eqb-true, eqb-false, not-true}
-use Rattle.pair.specs.Rank.{rank, term, position, Words, Proper}
+use mathlib.Core.List.{List, [], _∷_}
+use lib.ListN.{length, take}
+use lib.Dec.{ltb, eqb}
+use borrow.Author.Tests.{ltb-true, lt-ltb, eqb-false, not-true}
+use Rattle.pair.specs.Rank.{rank, Words, Proper}
 use Rattle.pair.specs.Rising.{Each, risingFrom}
 use Rattle.pair.proofs.Order.{proper-rank}
 use Rattle.pair.proofs.Rising.{rising-weaker}

@@ -1,15 +1,15 @@
 -- What a list of pairs costs in words, and how many of its leading pairs fit in a room.
 use Prim.Native.Nat.{ℕ, zero, suc, _+_, _-_, _≤_, _<_}
 use native.Mathlib.Omega.{arith}
-use mathlib.Core.Path.{_≡_, refl, sym, _∙_, ap}
-use mathlib.Core.Bool.{Bool, true, false, cond, _&&_, not}
+use mathlib.Core.Path.{_≡_, refl}
+use mathlib.Core.Bool.{Bool, true, false, cond}
 use mathlib.Core.List.{List, [], _∷_, _++_}
-use lib.ListN.{length, take, drop, length-append}
-use lib.Dec.{ltb, leb, eqb}
-use borrow.Author.Tests.{leb-true, leb-false, le-leb, lt-leb, eqb-true, eq-eqb}
-use Rattle.pair.specs.Rank.{rank, term, position, Words}
+use lib.ListN.{length, take}
+use lib.Dec.{leb, eqb}
+use borrow.Author.Tests.{leb-true, leb-false, le-leb, eqb-true, eq-eqb}
+use Rattle.pair.specs.Rank.{rank, term, Words}
 use Rattle.pair.specs.Rising.{keep}
-use Rattle.block.specs.Block.{pairsFrom, pairs, leading, packedAfter, packed, cost, fitting, due, goesOn}
+use Rattle.block.specs.Block.{pairsFrom, pairs, packedAfter, cost, fitting}
 
 -- the words that the pairs take after a pair of the term t, 0 for none
 unfoldable pub size : ℕ → List ℕ → ℕ

@@ -1,10 +1,9 @@
 -- Lists of 32-bit words stay lists of 32-bit words.
-use Prim.Native.Nat.{ℕ, zero, suc, _+_, _≤_, _<_}
+use Prim.Native.Nat.{ℕ, zero, suc, _+_, _<_}
 use mathlib.Core.List.{List, [], _∷_, _++_}
 use native.Mathlib.Omega.{arith}
-use lib.ListN.{length, take, drop, getD, set, replicate}
+use lib.ListN.{take, drop, set, replicate}
 use lib.Seq.{sets, getD-drop}
-use mathlib.Core.Path.{_≡_}
 use Rattle.pair.specs.Rank.{Words}
 
 pub words-nil : Words []
@@ -54,5 +53,6 @@ words-sets (x ∷ vs) l p w v = words-sets vs (set l p x) (suc p) (words-set l p
   where
     first : Words (x ∷ vs) → x < 4294967296
     first v = unfold Words in v 0
+
     rest : Words (x ∷ vs) → Words vs
     rest v = unfold Words in λ i. v (suc i)

@@ -1,12 +1,11 @@
 -- Places around a circle.
-use Prim.Native.Nat.{ℕ, zero, suc, _+_, _*_, _-_, _/_, _%_, _≤_, _<_}
+use Prim.Native.Nat.{ℕ, zero, suc, _+_, _-_, _/_, _%_, _≤_, _<_}
 use mathlib.Core.Path.{_≡_, refl, sym, _∙_, ap}
 use mathlib.Core.Bool.{Bool, true, false}
 use mathlib.Core.List.{List, [], _∷_, _++_}
-use native.Mathlib.Nat.{div-add-mod', mul-le-mul-right, mod-add-mod, mod-mod, add-zero}
-use native.Mathlib.Numerals.{add-one}
+use native.Mathlib.Nat.{div-add-mod', mul-le-mul-right, mod-add-mod, mod-mod}
 use native.Mathlib.Omega.{arith}
-use lib.ListN.{length, drop, take}
+use lib.ListN.{length, drop}
 use lib.Dec.{ltb}
 use borrow.Author.Tests.{ltb-true, ltb-false}
 use Rattle.pair.specs.Rising.{Each}
@@ -44,7 +43,7 @@ around-add n start (suc a) b =
 pub around-drop : (n start d len : ℕ) → d ≤ len → drop d (around n start len) ≡ around n (start + d) (len - d)
 unfolding around
 around-drop n start zero len h = let e : start + zero ≡ start = omega arith in let z : len - zero ≡ len = omega arith in rw (e, z)
-around-drop n start (suc d) zero h = absurd (let z : ⊥ = omega arith in z)
+around-drop n start (suc d) zero h = absurd (omega arith)
 around-drop n start (suc d) (suc len) h =
     let e : start + suc d ≡ start + 1 + d = omega arith in
     let z : suc len - suc d ≡ len - d = omega arith in
@@ -56,9 +55,27 @@ unfolding around
 around-mod n start zero = refl
 around-mod n start (suc len) =
     rw (mod-mod start n) (ap (λ l. start % n ∷ l)
-      (sym (around-mod n (start % n + 1) len) ∙ rw (mod-add-mod start n 1) (around-mod n (start + 1) len)))
+    (sym (around-mod n (start % n + 1) len) ∙ rw (mod-add-mod start n 1) (around-mod n (start + 1) len)))
+
+pub around-mod-add : (n start a len : ℕ) → around n (start % n + a) len ≡ around n (start + a) len
+around-mod-add n start a len =
+    sym (around-mod n (start % n + a) len) ∙ ap (λ s. around n s len) (mod-add-mod start n a) ∙ around-mod n (start + a) len
 
 -- One place more at the end.
 pub around-more : (n start len : ℕ) → around n start (len + 1) ≡ around n start len ++ ((start + len) % n ∷ [])
 unfolding around
 around-more n start len = around-add n start len 1
+
+-- no number stands twice in the list
+abbrev pub Distinct : List ℕ → Type 0
+Distinct [] = Unit {0}
+Distinct (x ∷ xs) = Each (λ y. x ≡ y → ⊥) xs × Distinct xs
+
+-- A stretch of no more than a turn comes to no place twice.
+pub around-distinct : (n start len : ℕ) → len ≤ n → Distinct (around n start len)
+unfolding around
+around-distinct n start zero h = tt
+around-distinct n start (suc len) h = (
+  each-around (λ y. start % n ≡ y → ⊥) n (start + 1) len (λ j l u. mod-apart n start j (omega arith) (omega arith)),
+  around-distinct n (start + 1) len (omega arith),
+)

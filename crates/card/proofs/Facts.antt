@@ -1,12 +1,12 @@
 -- What a sound card's words say, taken out of the judge's number and put back.
-use Prim.Native.Nat.{ℕ, zero, suc, _+_, _-_, _≤_, _<_}
-use mathlib.Core.Path.{_≡_, refl}
-use mathlib.Core.Bool.{Bool, true, false, _&&_, not}
-use mathlib.Core.List.{List, [], _∷_}
+use Prim.Native.Nat.{ℕ, _+_, _-_, _≤_, _<_}
+use mathlib.Core.Path.{_≡_}
+use mathlib.Core.Bool.{true, false}
+use mathlib.Core.List.{List}
 use native.Mathlib.Omega.{arith}
 use native.Mathlib.Nat.{mul-le-mul}
 use lib.ListN.{length}
-use lib.Dec.{ltb, leb, eqb}
+use lib.Dec.{ltb, eqb}
 use borrow.Author.Tests.{ltb-true, ltb-false, leb-true, eqb-true, not-false, lt-ltb, le-ltb, le-leb, eq-eqb}
 use Rattle.pair.specs.Rising.{risingFrom, last, firstOf}
 use Rattle.pair.proofs.FirstOf.{passed}
@@ -75,9 +75,24 @@ pub sound : (c : List ℕ) → Facts c → judged c ≡ 0
 unfolding judged firstOf segmentsSound
 sound c f =
     let l : 8 ≤ length c = omega (arith, f .long) in
-    simp (le-ltb (length c) 8 l, eq-eqb _ _ (f .format), le-leb _ _ (f .sizeLow), le-leb _ _ (f .sizeHigh), le-leb _ _ (f .countLow), le-leb _ _ (f .countHigh),
-      eq-eqb _ _ (f .long), lt-ltb _ _ (f .start), le-ltb (placeCount c - 1) (oldLength c + newLength c) (omega (arith, f .room)),
-      f .boundWords, f .newSound, f .oldSound, f .newRising, f .oldRising, eq-eqb _ _ (f .lastNew), f .reaches)
+    simp (
+      le-ltb (length c) 8 l,
+      eq-eqb _ _ (f .format),
+      le-leb _ _ (f .sizeLow),
+      le-leb _ _ (f .sizeHigh),
+      le-leb _ _ (f .countLow),
+      le-leb _ _ (f .countHigh),
+      eq-eqb _ _ (f .long),
+      lt-ltb _ _ (f .start),
+      le-ltb (placeCount c - 1) (oldLength c + newLength c) (omega (arith, f .room)),
+      f .boundWords,
+      f .newSound,
+      f .oldSound,
+      f .newRising,
+      f .oldRising,
+      eq-eqb _ _ (f .lastNew),
+      f .reaches,
+    )
 
 -- Within the limits a card has at most 1,050,632 words.
 pub card-length : (c : List ℕ) → judged c ≡ 0 → length c ≤ 1050632

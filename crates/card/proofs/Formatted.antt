@@ -1,20 +1,20 @@
 -- A card just formatted is sound, has no live pair and no boundary.
-use Prim.Native.Nat.{ℕ, zero, suc, _+_, _*_, _-_, _≤_, _<_}
-use mathlib.Core.Path.{_≡_, refl, sym, _∙_, ap}
-use mathlib.Core.Bool.{Bool, true, false, _&&_, not}
+use Prim.Native.Nat.{ℕ, _+_, _≤_, _<_}
+use mathlib.Core.Path.{_≡_, _∙_, ap}
+use mathlib.Core.Bool.{true, false}
 use mathlib.Core.List.{List, [], _∷_}
 use native.Mathlib.Omega.{arith}
 use lib.ListN.{length, drop, getD}
 use lib.Seq.{sets, length-sets}
-use lib.Dec.{ltb, leb, eqb}
-use borrow.Author.Tests.{leb-true, eqb-true, not-false, eq-eqb}
-use Rattle.pair.specs.Rank.{rank, Words}
-use Rattle.pair.specs.Rising.{above, keep, risingFrom, last, firstOf}
+use lib.Dec.{eqb}
+use borrow.Author.Tests.{leb-true, eqb-true, not-false}
+use Rattle.pair.specs.Rank.{Words}
+use Rattle.pair.specs.Rising.{above, keep, risingFrom, last}
 use Rattle.pair.proofs.FirstOf.{passed}
 use Rattle.pair.proofs.Tests.{and-left, and-right}
-use Rattle.card.specs.Layout.{word, blockSize, placeCount, oldStart, oldLength, newLength, boundary, entryWidth, cardLength, inLimits, around, oldPlaces, newPlaces, pairsAt, live, formatNumber, formatted}
+use Rattle.card.specs.Layout.{word, boundary, entryWidth, cardLength, inLimits, around, oldPlaces, newPlaces, pairsAt, live, formatNumber, formatted}
 use Rattle.card.specs.Sound.{blocksSound, firstReaches, boundaryWords, judged}
-use Rattle.card.proofs.Facts.{Facts, sound}
+use Rattle.card.proofs.Facts.{sound}
 use Rattle.card.proofs.Parts.{part-sets-after, word-sets-same}
 use Rattle.card.proofs.Bits.{words-sets, words-cons, words-nil}
 
@@ -37,6 +37,11 @@ formattable c b n e =
   where
     gather : inLimits b n ≡ true → eqb (length c) (cardLength entryWidth b n) ≡ true → Formattable c b n
     gather l e = record { sizeLow = search tests; sizeHigh = search tests; countLow = search tests; countHigh = search tests; long = eqb-true _ _ e }
+
+-- A refused call of the formatter writes nothing.
+pub formatted-refused : (c : List ℕ) (b n : ℕ) → eqb (formatNumber c b n) 0 ≡ false → formatted c b n ≡ c
+unfolding formatted
+formatted-refused c b n e = rw e
 
 abbrev fresh : ℕ → ℕ → List ℕ
 fresh b n = 1 ∷ b ∷ n ∷ 0 ∷ 0 ∷ 0 ∷ 0 ∷ 0 ∷ []
@@ -121,5 +126,5 @@ module _ (c : List ℕ) (b n : ℕ) (e : formatNumber c b n ≡ 0) where
   formatted-words w hb hn =
       let z : 0 < 4294967296 = omega arith in
       rw formatted-is (words-sets (fresh b n) c 0 w
-        (words-cons _ _ (omega arith) (words-cons _ _ hb (words-cons _ _ hn
-          (words-cons _ _ z (words-cons _ _ z (words-cons _ _ z (words-cons _ _ z (words-cons _ _ z words-nil)))))))))
+      (words-cons _ _ (omega arith) (words-cons _ _ hb (words-cons _ _ hn
+      (words-cons _ _ z (words-cons _ _ z (words-cons _ _ z (words-cons _ _ z (words-cons _ _ z words-nil)))))))))

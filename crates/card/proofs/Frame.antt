@@ -1,21 +1,14 @@
 -- The frame: words in free places and their map entries change neither the judge's number nor the live pairs nor the boundary.
-use Prim.Native.Nat.{ℕ, zero, suc, _+_, _*_, _-_, _%_, _≤_, _<_}
-use mathlib.Core.Path.{_≡_, refl, sym, _∙_, ap}
-use mathlib.Core.Bool.{Bool, true, false, cond, _&&_, not}
-use mathlib.Core.List.{List, [], _∷_, _++_}
-use native.Mathlib.Nat.{mul-le-mul-right, mod-lt}
+use Prim.Native.Nat.{ℕ, _<_}
+use mathlib.Core.Path.{_≡_, refl, sym, _∙_}
+use mathlib.Core.List.{List, [], _∷_}
 use native.Mathlib.Omega.{arith}
-use lib.ListN.{length, take, drop, getD}
-use lib.Seq.{sets, length-sets, getD-take}
-use lib.Dec.{ltb, eqb}
-use Rattle.pair.specs.Rank.{rank}
-use Rattle.pair.specs.Rising.{Each, any, above, risingFrom, last, firstOf}
-use Rattle.block.specs.Block.{pairs, formed}
-use Rattle.card.specs.Layout.{word, blockSize, placeCount, oldStart, oldLength, newLength, boundary, entryWidth, cardLength, inLimits, entryAt, placeAt, firstPair, place, around, oldPlaces, newPlaces, pairsAt, live}
+use lib.ListN.{length, take}
+use lib.Seq.{getD-take}
+use Rattle.pair.specs.Rising.{Each}
+use Rattle.card.specs.Layout.{word, boundary, firstPair, place, oldPlaces, newPlaces, pairsAt, live}
 use Rattle.card.specs.Sound.{blocksSound, firstReaches, boundaryWords, segmentsSound, judged}
-use Rattle.card.proofs.Circle.{mod-apart, each-around}
-use Rattle.card.proofs.Parts.{entry, firstPair-entry, part-sets-before, part-sets-after, part-sets-row}
-use Rattle.card.proofs.Facts.{Facts}
+use Rattle.card.proofs.Parts.{entry, firstPair-entry}
 
 -- the place and its map entry hold the same words on both cards
 pub record SameAt (c d : List ℕ) (i : ℕ) : Type 0 where
@@ -98,8 +91,16 @@ module _ (c d : List ℕ) (a : Alike c d) where
   segments-alike : segmentsSound d ≡ segmentsSound c
   unfolding segmentsSound
   segments-alike =
-      rw (newPairs-alike, oldPairs-alike, boundary-alike, newPlaces-alike, oldPlaces-alike, blocksSound-alike c d (newPlaces c) (a .new),
-        blocksSound-alike c d (oldPlaces c) (a .old), firstReaches-alike c d (boundary c) (oldPlaces c) (a .old))
+      rw (
+        newPairs-alike,
+        oldPairs-alike,
+        boundary-alike,
+        newPlaces-alike,
+        oldPlaces-alike,
+        blocksSound-alike c d (newPlaces c) (a .new),
+        blocksSound-alike c d (oldPlaces c) (a .old),
+        firstReaches-alike c d (boundary c) (oldPlaces c) (a .old),
+      )
 
   -- The judge's number is the same.
   pub judged-alike : judged d ≡ judged c

@@ -1,16 +1,16 @@
 -- Free places: words written in one, or in its map entry, leave a card alike, and the place after the new segment is free.
-use Prim.Native.Nat.{ℕ, zero, suc, _+_, _*_, _-_, _%_, _≤_, _<_}
+use Prim.Native.Nat.{ℕ, suc, _+_, _*_, _%_, _≤_, _<_}
 use mathlib.Core.Path.{_≡_, refl, ap}
-use mathlib.Core.List.{List, [], _∷_}
+use mathlib.Core.List.{List, [], _∷_, _++_}
 use native.Mathlib.Nat.{mul-le-mul-left, mod-lt}
 use native.Mathlib.Omega.{arith}
 use lib.ListN.{length, take}
 use lib.Seq.{sets, length-sets}
 use Rattle.pair.specs.Rising.{Each}
 use Rattle.pair.proofs.Each.{Each-imply}
-use Rattle.card.specs.Layout.{word, blockSize, placeCount, oldStart, oldLength, newLength, entryWidth, entryAt, placeAt, place, around, oldPlaces, newPlaces}
-use Rattle.card.proofs.Circle.{mod-apart, each-around}
-use Rattle.card.proofs.Parts.{entry, part-sets-before, part-sets-after, part-sets-row, word-sets-before}
+use Rattle.card.specs.Layout.{blockSize, placeCount, oldStart, oldLength, newLength, entryWidth, entryAt, placeAt, place, oldPlaces, newPlaces}
+use Rattle.card.proofs.Circle.{mod-apart, each-around, around-add, around-more, Distinct, around-distinct}
+use Rattle.card.proofs.Parts.{part-sets-before, part-sets-after, part-sets-row, word-sets-before}
 use Rattle.card.proofs.Facts.{Facts}
 use Rattle.card.proofs.Frame.{SameAt, Alike}
 
@@ -37,6 +37,14 @@ due-free c f =
       old = each-around _ n s (oldLength c) (λ j l h. (mod-lt j some, mod-apart n j (s + oldLength c + newLength c) (omega arith) (omega arith)));
     }
 
+-- The places of the old segment, those of the new segment and the place after it are all different.
+pub places-distinct :
+    (c : List ℕ) → Facts c → Distinct (oldPlaces c ++ (newPlaces c ++ ((oldStart c + oldLength c + newLength c) % placeCount c ∷ [])))
+places-distinct c f =
+    let n = placeCount c in
+    rw (← around-more n (oldStart c + oldLength c) (newLength c), ← around-add n (oldStart c) (oldLength c) (newLength c + 1))
+    (around-distinct n (oldStart c) (oldLength c + (newLength c + 1)) (omega (arith, f .room)))
+
 -- Words written in a free place leave the card alike.
 pub alike-place : (c ws : List ℕ) (i : ℕ) → Free c i → length ws ≤ blockSize c → Alike c (sets c (placeAt entryWidth c i) ws)
 unfolding place
@@ -50,6 +58,7 @@ alike-place c ws i f h =
   where
     at : ℕ
     at = placeAt entryWidth c i
+
     same : (j : ℕ) → Apart c i j → SameAt c (sets c at ws) j
     same j a =
         record {
@@ -73,6 +82,7 @@ alike-entry c ws i f h =
   where
     at : ℕ
     at = entryAt entryWidth i
+
     same : (j : ℕ) → Apart c i j → SameAt c (sets c at ws) j
     same j a =
         record {

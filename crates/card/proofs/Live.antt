@@ -1,21 +1,22 @@
 -- The live pairs of a sound card: rising, pairs all of them, and in two parts at the boundary.
-use Prim.Native.Nat.{ℕ, zero, suc, _+_, _≤_, _<_}
-use mathlib.Core.Path.{_≡_, refl, sym, _∙_, ap}
-use mathlib.Core.Bool.{Bool, true, false, _&&_, and-assoc}
+use Prim.Native.Nat.{ℕ, _≤_, _<_}
+use mathlib.Core.Path.{_≡_, refl, sym}
+use mathlib.Core.Bool.{true, _&&_, and-assoc}
 use mathlib.Core.List.{List, [], _∷_, _++_, append-assoc, append-nil}
 use native.Mathlib.Omega.{arith}
-use lib.ListN.{length, take, drop, getD}
+use lib.ListN.{length, drop, getD}
 use lib.Dec.{eqb, ltb}
+use borrow.Author.Tests.{lt-ltb}
 use Rattle.pair.specs.Rank.{Words, Proper}
-use Rattle.pair.specs.Rising.{Each, above, atMost, risingFrom, last}
-use Rattle.pair.proofs.Tests.{and-left, and-right, and-both}
+use Rattle.pair.specs.Rising.{Each, above, atMost, risingFrom, last, any}
+use Rattle.pair.proofs.Tests.{and-left, and-right}
 use Rattle.pair.proofs.Each.{Each-append, Each-keep}
-use Rattle.pair.proofs.Rising.{rising-join, rising-above}
+use Rattle.pair.proofs.Rising.{rising-head, rising-first, rising-join, rising-above}
 use Rattle.pair.proofs.Parts.{above-append, atMost-append, atMost-all, above-none, above-above, atMost-above-none}
 use Rattle.block.specs.Block.{pairs, formed}
-use Rattle.block.proofs.Reading.{formed-proper}
+use Rattle.block.proofs.Reading.{formed-proper, formed-some}
 use Rattle.card.specs.Layout.{blockSize, boundary, entryWidth, placeAt, firstPair, place, oldPlaces, newPlaces, pairsAt, live}
-use Rattle.card.specs.Sound.{blocksSound, judged}
+use Rattle.card.specs.Sound.{blocksSound, firstReaches}
 use Rattle.card.proofs.Bits.{words-take, words-drop}
 use Rattle.card.proofs.Facts.{Facts}
 
@@ -46,6 +47,16 @@ pairsAt-proper c (i ∷ is) w s =
     (formed-proper (place c i) (place-words c i w) (search tests))
     (pairsAt-proper c is w (search tests))
 
+-- Where the blocks at some places are sound and rising, the first has a pair.
+pub reaches-zero : (c is : List ℕ) → blocksSound c is ≡ true → risingFrom 0 (pairsAt c is) ≡ true → firstReaches c 0 is ≡ true
+unfolding blocksSound firstReaches pairsAt any
+reaches-zero c [] s h = refl
+reaches-zero c (i ∷ is) s h = go (pairs (place c i)) (formed-some (place c i) (search tests)) (rising-first (pairs (place c i)) (pairsAt c is) 0 h)
+  where
+    go : (xs : List ℕ) → 0 < length xs → risingFrom 0 xs ≡ true → any (ltb 0) xs ≡ true
+    go [] l h = absurd (omega arith)
+    go (x ∷ xs) l h = rw (lt-ltb 0 x (rising-head x xs 0 h))
+
 module _ (c : List ℕ) (f : Facts c) where
   -- The live pairs rise.
   pub live-rising : risingFrom 0 (live c) ≡ true
@@ -57,16 +68,23 @@ module _ (c : List ℕ) (f : Facts c) where
   unfolding live
   live-atMost =
       let h : last 0 (pairsAt c (newPlaces c)) ≤ boundary c = omega (arith, f .lastNew) in
-      rw (atMost-append, atMost-all (pairsAt c (newPlaces c)) (boundary c) 0 (f .newRising) h,
-        atMost-above-none (boundary c) (boundary c) (pairsAt c (oldPlaces c)) (omega arith), append-nil)
+      rw (
+        atMost-append,
+        atMost-all (pairsAt c (newPlaces c)) (boundary c) 0 (f .newRising) h,
+        atMost-above-none (boundary c) (boundary c) (pairsAt c (oldPlaces c)) (omega arith),
+        append-nil,
+      )
 
   -- Above it they are the old segment's.
   pub live-above : above (boundary c) (live c) ≡ above (boundary c) (pairsAt c (oldPlaces c))
   unfolding live
   live-above =
       let h : last 0 (pairsAt c (newPlaces c)) ≤ boundary c = omega (arith, f .lastNew) in
-      rw (above-append, above-none (pairsAt c (newPlaces c)) (boundary c) 0 (f .newRising) h,
-        above-above (boundary c) (boundary c) (pairsAt c (oldPlaces c)) (omega arith))
+      rw (
+        above-append,
+        above-none (pairsAt c (newPlaces c)) (boundary c) 0 (f .newRising) h,
+        above-above (boundary c) (boundary c) (pairsAt c (oldPlaces c)) (omega arith),
+      )
 
   -- All of them are pairs.
   pub live-proper : Words c → Each Proper (live c)

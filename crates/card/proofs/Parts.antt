@@ -1,16 +1,16 @@
 -- Parts of a list of words, and where the places and map entries of a card lie, over any width.
-use Prim.Native.Nat.{ℕ, zero, suc, _+_, _*_, _-_, _≤_, _<_}
+use Prim.Native.Nat.{ℕ, suc, _+_, _*_, _-_, _≤_, _<_}
 use mathlib.Core.Path.{_≡_, refl, sym, _∙_, ap}
 use mathlib.Core.Bool.{Bool, true, false}
 use mathlib.Core.List.{List, [], _∷_, _++_, append-assoc}
 use native.Mathlib.Nat.{mul-le-mul-right}
 use native.Mathlib.Omega.{arith}
-use lib.ListN.{length, take, drop, getD, set, length-take}
+use lib.ListN.{length, take, drop, getD, set}
 use lib.Seq.{sets, sets-eq, take-set-le, drop-set-add, drop-set-lt, take-at, drop-at, length-take-le, getD-drop, getD-take}
 use lib.Dec.{ltb}
 use borrow.Author.Tests.{ltb-true, ltb-false}
 use Rattle.pair.specs.Rank.{rank}
-use Rattle.card.specs.Layout.{word, blockSize, placeCount, entryWidth, entryAt, placeAt, firstPair, place}
+use Rattle.card.specs.Layout.{entryWidth, entryAt, firstPair}
 
 -- Words written after a part leave it.
 pub part-sets-before : (ws l : List ℕ) (m a p : ℕ) → a + m ≤ p → take m (drop a (sets l p ws)) ≡ take m (drop a l)
@@ -67,5 +67,4 @@ unfolding firstPair
 firstPair-entry c i =
     let a = entryAt entryWidth i in
     let z : a + 0 ≡ a = omega arith in
-    rw (getD-take 2 (drop a c) 0 0 (omega arith), getD-take 2 (drop a c) 1 0 (omega arith), getD-drop a c 0 0, getD-drop a c 1 0, z)
-
+    rw (getD-take entryWidth (drop a c) 0 0 (omega arith), getD-take entryWidth (drop a c) 1 0 (omega arith), getD-drop a c 0 0, getD-drop a c 1 0, z)

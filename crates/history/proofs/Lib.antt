@@ -1,1 +1,12 @@
+pub mod Answers
 pub mod BlocksRead
+pub mod Demand3
+pub mod EmptyBatch
+pub mod Events
+pub mod Keeping
+pub mod Kept
+pub mod KeptBatch
+pub mod Landed
+pub mod PassEnds
+pub mod Removals
+pub mod Sharp

@@ -1,25 +1,18 @@
 -- A question in order is put to a sound card, and the blocks read for it are at most two more than those with a posting to be found.
-use Prim.Native.Nat.{ℕ, zero, suc, _+_, _≤_, _<_}
+use Prim.Native.Nat.{ℕ, _+_, _≤_}
 use native.Mathlib.Omega.{arith}
-use mathlib.Core.Path.{_≡_, refl}
-use mathlib.Core.Bool.{Bool, true, false, _||_, not}
-use mathlib.Core.List.{List, [], _∷_}
-use lib.Dec.{ltb, eqb}
-use borrow.Author.Tests.{ne-eqb}
+use mathlib.Core.Path.{_≡_}
+use mathlib.Core.List.{List}
 use Rattle.pair.specs.Rank.{rank}
-use Rattle.pair.specs.Rising.{firstOf}
+use Rattle.pair.proofs.FirstOf.{handed-on}
 use Rattle.card.specs.Layout.{boundary, oldPlaces, newPlaces}
 use Rattle.card.specs.Sound.{judged}
-use Rattle.card.proofs.Facts.{Facts, facts}
+use Rattle.card.proofs.Live.{reaches-zero}
+use Rattle.card.proofs.Facts.{facts}
 use Rattle.lookup.specs.Found.{questionNumber, blocksRead, holders}
-use Rattle.lookup.proofs.Span.{span-bound, reaches-zero}
+use Rattle.lookup.proofs.Span.{span-bound}
 
--- a number that is handed on is 0 where what comes out is
-pub handed-on : (n : ℕ) (cs : List (Bool × ℕ)) → firstOf ((not (eqb n 0), n) ∷ cs) ≡ 0 → (n ≡ 0) × (firstOf cs ≡ 0)
-unfolding firstOf
-handed-on zero cs e = (refl, e)
-handed-on (suc n) cs e = absurd (let z : suc n ≡ 0 = rw (ne-eqb (suc n) 0 (omega arith)) at e in omega arith)
-
+-- a question in order is put to a sound card
 pub question-sound : (c : List ℕ) (t a z : ℕ) → questionNumber c t a z ≡ 0 → judged c ≡ 0
 unfolding questionNumber
 question-sound c t a z e = handed-on (judged c) _ e .0

@@ -1,18 +1,16 @@
 -- The frame: cards that differ in free places and their map entries at most answer every question alike.
-use Prim.Native.Nat.{ℕ, zero, suc, _+_}
+use Prim.Native.Nat.{ℕ, _+_}
 use mathlib.Core.Path.{_≡_, refl, _∙_, ap, ap₂}
-use mathlib.Core.Bool.{Bool, true, false, cond, _&&_}
+use mathlib.Core.Bool.{_&&_}
 use mathlib.Core.List.{List, [], _∷_, map}
 use native.Mathlib.Omega.{arith}
-use lib.ListN.{length}
-use lib.Dec.{ltb, leb, eqb}
+use lib.Dec.{ltb, leb}
 use Rattle.pair.specs.Rank.{rank, position}
-use Rattle.pair.specs.Rising.{Each, above, within, any}
+use Rattle.pair.specs.Rising.{Each, above, within}
 use Rattle.block.specs.Block.{pairs}
-use Rattle.card.specs.Layout.{boundary, entryWidth, placeAt, firstPair, place, oldPlaces, newPlaces, live}
-use Rattle.card.specs.Sound.{judged}
+use Rattle.card.specs.Layout.{boundary, entryWidth, placeAt, place, oldPlaces, newPlaces}
 use Rattle.card.proofs.Frame.{SameAt, Alike, word-alike, firstPair-alike, boundary-alike, oldPlaces-alike, newPlaces-alike, live-alike, judged-alike}
-use Rattle.lookup.specs.Found.{found, mappedTo, span, blocksRead, questionNumber, lookupNumber, Lookup, lookup, runAt, run, wordsBefore, runStartAt, runStart}
+use Rattle.lookup.specs.Found.{found, mappedTo, span, blocksRead, questionNumber, lookupNumber, lookup, runAt, run, wordsBefore, runStartAt, runStart}
 
 mappedTo-alike : (c d : List ℕ) (k : ℕ) (is : List ℕ) → Each (SameAt c d) is → mappedTo d k is ≡ mappedTo c k is
 unfolding mappedTo
@@ -49,8 +47,14 @@ module _ (c d : List ℕ) (s : Alike c d) where
   pub blocksRead-alike : (t a z : ℕ) → blocksRead d t a z ≡ blocksRead c t a z
   unfolding blocksRead span
   blocksRead-alike t a z =
-      rw (newPlaces-alike c d s, oldPlaces-alike c d s, mappedTo-alike c d (rank t a) (newPlaces c) (s .new), mappedTo-alike c d (rank t z) (newPlaces c) (s .new),
-        mappedTo-alike c d (rank t a) (oldPlaces c) (s .old), mappedTo-alike c d (rank t z) (oldPlaces c) (s .old))
+      rw (
+        newPlaces-alike c d s,
+        oldPlaces-alike c d s,
+        mappedTo-alike c d (rank t a) (newPlaces c) (s .new),
+        mappedTo-alike c d (rank t z) (newPlaces c) (s .new),
+        mappedTo-alike c d (rank t a) (oldPlaces c) (s .old),
+        mappedTo-alike c d (rank t z) (oldPlaces c) (s .old),
+      )
 
   pub questionNumber-alike : (t a z : ℕ) → questionNumber d t a z ≡ questionNumber c t a z
   unfolding questionNumber
@@ -65,14 +69,24 @@ module _ (c d : List ℕ) (s : Alike c d) where
   pub run-alike : (t a z : ℕ) → run d t a z ≡ run c t a z
   unfolding run
   run-alike t a z =
-      rw (questionNumber-alike t a z, newPlaces-alike c d s, oldPlaces-alike c d s, boundary-alike c d s,
+      rw (
+        questionNumber-alike t a z,
+        newPlaces-alike c d s,
+        oldPlaces-alike c d s,
+        boundary-alike c d s,
         runAt-alike c d (boundary c) (rank t a) (rank t z) (oldPlaces c) [] (s .old),
-        runAt-alike c d 0 (rank t a) (rank t z) (newPlaces c) (runAt c (boundary c) (rank t a) (rank t z) (oldPlaces c) []) (s .new))
+        runAt-alike c d 0 (rank t a) (rank t z) (newPlaces c) (runAt c (boundary c) (rank t a) (rank t z) (oldPlaces c) []) (s .new),
+      )
 
   -- and at the same place of the card.
   pub runStart-alike : (t a z : ℕ) → runStart d t a z ≡ runStart c t a z
   unfolding runStart
   runStart-alike t a z =
-      rw (questionNumber-alike t a z, newPlaces-alike c d s, oldPlaces-alike c d s, boundary-alike c d s,
+      rw (
+        questionNumber-alike t a z,
+        newPlaces-alike c d s,
+        oldPlaces-alike c d s,
+        boundary-alike c d s,
         runStartAt-alike c d s (boundary c) (rank t a) (rank t z) (oldPlaces c) 0 (s .old),
-        runStartAt-alike c d s 0 (rank t a) (rank t z) (newPlaces c) (runStartAt c (boundary c) (rank t a) (rank t z) (oldPlaces c) 0) (s .new))
+        runStartAt-alike c d s 0 (rank t a) (rank t z) (newPlaces c) (runStartAt c (boundary c) (rank t a) (rank t z) (oldPlaces c) 0) (s .new),
+      )

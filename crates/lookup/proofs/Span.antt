@@ -1,16 +1,16 @@
 -- The blocks that a lookup reads in a segment are at most one more than those that hold a live posting in range.
-use Prim.Native.Nat.{ℕ, zero, suc, _+_, _-_, _≤_, _<_}
+use Prim.Native.Nat.{ℕ, suc, _+_, _-_, _≤_, _<_}
 use native.Mathlib.Omega.{arith}
-use mathlib.Core.Path.{_≡_, refl, sym, _∙_, ap}
-use mathlib.Core.Bool.{Bool, true, false, cond, _&&_, _||_, not, true≢false}
-use mathlib.Core.List.{List, [], _∷_, _++_}
+use mathlib.Core.Path.{_≡_, refl, sym}
+use mathlib.Core.Bool.{Bool, true, false, cond, _&&_, _||_, true≢false}
+use mathlib.Core.List.{List, [], _∷_}
 use lib.ListN.{length, getD}
 use lib.Dec.{ltb, leb, eqb}
-use borrow.Author.Tests.{ltb-true, lt-ltb, leb-true, leb-false, le-leb, eqb-true}
+use borrow.Author.Tests.{ltb-true, lt-ltb, leb-false, le-leb, eqb-true}
 use Rattle.pair.specs.Rank.{rank}
 use Rattle.pair.specs.Rising.{risingFrom, last, any}
 use Rattle.pair.proofs.Rising.{rising-head, rising-tail, rising-last, rising-first, rising-second}
-use Rattle.pair.proofs.Tests.{and-left, and-right, and-both}
+use Rattle.pair.proofs.Tests.{and-left, and-right}
 use Rattle.block.specs.Block.{pairs, formed}
 use Rattle.block.proofs.Reading.{formed-some}
 use Rattle.card.specs.Layout.{firstPair, place, pairsAt}
@@ -142,9 +142,3 @@ span-bound c k t a z (i ∷ is) s r h =
         let less : rank t a < firstPair c i = leb-false (firstPair c i) (rank t a) g in
         omega (arith, counted held (holders c k (rank t a) (rank t z) is), above (omega (arith, f .high)))
     go f rest above false u e g = omega arith
-
--- the first of some sound places has a pair above 0
-pub reaches-zero : (c : List ℕ) (is : List ℕ) → blocksSound c is ≡ true → risingFrom 0 (pairsAt c is) ≡ true → firstReaches c 0 is ≡ true
-unfolding firstReaches
-reaches-zero c [] s r = refl
-reaches-zero c (i ∷ is) s r = let f = first c 0 i is s r in f .holds (ltb 0) (lt-ltb 0 (firstPair c i) (f .low))

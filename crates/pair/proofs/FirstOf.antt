@@ -1,10 +1,12 @@
 -- A call gives a number exactly where that number's condition holds and that of none before it in the order does.
 use Prim.Native.Nat.{ℕ, zero, suc, _<_}
-use mathlib.Core.Path.{_≡_, refl, sym}
-use mathlib.Core.Bool.{Bool, true, false, cond}
+use mathlib.Core.Path.{_≡_, refl}
+use mathlib.Core.Bool.{Bool, true, false, cond, not}
 use mathlib.Core.List.{List, [], _∷_, _++_}
 use mathlib.Core.Logic.{_↔_}
 use native.Mathlib.Omega.{arith}
+use lib.Dec.{eqb}
+use borrow.Author.Tests.{ne-eqb}
 use Rattle.pair.specs.Rising.{firstOf}
 
 -- no condition of the list holds
@@ -58,6 +60,23 @@ pub passed : (b : Bool) (n : ℕ) (cs : List (Bool × ℕ)) → firstOf ((b, suc
 unfolding firstOf
 passed true n cs e = absurd (omega arith)
 passed false n cs e = (refl, e)
+
+-- a number handed on from another judgement is 0 where 0 comes out
+pub handed-on : (n : ℕ) (cs : List (Bool × ℕ)) → firstOf ((not (eqb n 0), n) ∷ cs) ≡ 0 → (n ≡ 0) × (firstOf cs ≡ 0)
+unfolding firstOf
+handed-on zero cs e = (refl, e)
+handed-on (suc n) cs e = absurd (let z : suc n ≡ 0 = rw (ne-eqb (suc n) 0 (omega arith)) at e in omega arith)
+
+-- whatever holds of 0 and of every number of the list holds of the one that comes out
+abbrev pub Numbers : (ℕ → Type 0) → List (Bool × ℕ) → Type 0
+Numbers P [] = Unit {0}
+Numbers P (c ∷ cs) = P (c .1) × Numbers P cs
+
+pub firstOf-among : (P : ℕ → Type 0) → P 0 → (cs : List (Bool × ℕ)) → Numbers P cs → P (firstOf cs)
+unfolding firstOf
+firstOf-among P z [] n = z
+firstOf-among P z ((true, m) ∷ cs) n = n .0
+firstOf-among P z ((false, m) ∷ cs) n = firstOf-among P z cs (n .1)
 
 -- and, where the numbers are at least 1, only there
 pub firstOf-all-pass : (cs : List (Bool × ℕ)) → Numbered cs → firstOf cs ≡ 0 → NoneHolds cs

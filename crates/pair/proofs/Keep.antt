@@ -1,17 +1,18 @@
 -- The elements of a list that pass a test.
-use Prim.Native.Nat.{ℕ, zero, suc, _≤_, _<_}
-use mathlib.Core.Path.{_≡_, refl, sym, ap, _∙_}
-use mathlib.Core.Bool.{Bool, true, false, cond, _&&_, _||_, not}
+use Prim.Native.Nat.{ℕ, suc, _≤_}
+use mathlib.Core.Path.{_≡_, refl, sym, _∙_}
+use mathlib.Core.Bool.{Bool, true, false, cond, _&&_}
 use mathlib.Core.List.{List, [], _∷_, _++_}
 use lib.ListN.{length}
 use native.Mathlib.Omega.{arith}
 use Rattle.pair.specs.Rising.{Each, keep}
-use Rattle.pair.proofs.Tests.{contradiction}
 
+-- the first element is kept or not
 pub keep-cons : (f : ℕ → Bool) (x : ℕ) (xs : List ℕ) → keep f (x ∷ xs) ≡ cond (f x) (x ∷ keep f xs) (keep f xs)
 unfolding keep
 keep-cons f x xs = refl
 
+-- of two lists in a row
 pub keep-append : (f : ℕ → Bool) (xs ys : List ℕ) → keep f (xs ++ ys) ≡ keep f xs ++ keep f ys
 unfolding keep
 keep-append f [] ys = refl
@@ -27,6 +28,7 @@ unfolding keep
 keep-agree f g [] h = refl
 keep-agree f g (x ∷ xs) h = rw (h .0, keep-agree f g xs (h .1))
 
+-- so do tests that agree everywhere
 pub keep-same : (f g : ℕ → Bool) → ((x : ℕ) → f x ≡ g x) → (xs : List ℕ) → keep f xs ≡ keep g xs
 unfolding keep
 keep-same f g h [] = refl
@@ -52,6 +54,7 @@ keep-before f g h xs = keep-keep f g xs ∙ keep-same (λ x. g x && f x) f (λ x
     go x false true i = refl
     go x false false i = refl
 
+-- a weaker test afterwards changes nothing
 pub keep-after : (f g : ℕ → Bool) → ((x : ℕ) → g x ≡ true → f x ≡ true) → (xs : List ℕ) → keep f (keep g xs) ≡ keep g xs
 keep-after f g h xs = keep-keep f g xs ∙ keep-same (λ x. g x && f x) g (λ x. go x (f x) (g x) (h x)) xs
   where
@@ -70,6 +73,7 @@ keep-swap f g xs =
     go false true = refl
     go false false = refl
 
+-- a test that every element passes keeps all, and one that none passes keeps none
 pub keep-all : (f : ℕ → Bool) (xs : List ℕ) → Each (λ x. f x ≡ true) xs → keep f xs ≡ xs
 unfolding keep
 keep-all f [] h = refl
@@ -80,6 +84,7 @@ unfolding keep
 keep-none f [] h = refl
 keep-none f (x ∷ xs) h = rw (h .0) (keep-none f xs (h .1))
 
+-- no more elements are kept than there are
 pub length-keep : (f : ℕ → Bool) (xs : List ℕ) → length (keep f xs) ≤ length xs
 unfolding keep
 length-keep f [] = omega arith

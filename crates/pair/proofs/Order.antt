@@ -1,11 +1,11 @@
 -- The order of ranks is the order of pairs by term, then position.
-use Prim.Native.Nat.{ℕ, _+_, _*_, _≤_, _<_}
-use mathlib.Core.Path.{_≡_, refl, _∙_}
-use mathlib.Core.Bool.{Bool, true, false, _&&_, _||_}
+use Prim.Native.Nat.{ℕ, _≤_, _<_}
+use mathlib.Core.Path.{_≡_}
+use mathlib.Core.Bool.{_&&_, _||_}
 use mathlib.Core.Logic.{_↔_, _⊎_, inl, inr}
 use lib.Dec.{ltb, eqb}
 use native.Mathlib.Omega.{arith}
-use borrow.Author.Tests.{ltb-true, eqb-true, lt-ltb, le-ltb, eq-eqb, ne-eqb}
+use borrow.Author.Tests.{lt-ltb, le-ltb, eq-eqb, ne-eqb}
 use Rattle.pair.specs.Rank.{rank, term, position, Proper}
 use Rattle.pair.proofs.Tests.{ltb-agree, compared}
 
@@ -19,6 +19,7 @@ position-rank t p h = omega arith
 pub rank-term-position : (k : ℕ) → rank (term k) (position k) ≡ k
 rank-term-position k = omega arith
 
+-- a position is a 32-bit word
 pub position-word : (k : ℕ) → position k < 4294967296
 position-word k = omega arith
 

@@ -1,18 +1,19 @@
 -- The parts of a set above a number, up to it, and between two numbers.
-use Prim.Native.Nat.{ℕ, zero, suc, _≤_, _<_}
+use Prim.Native.Nat.{ℕ, _≤_, _<_}
 use mathlib.Core.Path.{_≡_, refl, sym, ap, _∙_}
-use mathlib.Core.Bool.{Bool, true, false, cond, _&&_, _||_, not}
+use mathlib.Core.Bool.{Bool, true, false, cond, _&&_}
 use mathlib.Core.List.{List, [], _∷_, _++_, append-nil}
 use lib.ListN.{take, drop, take-append-drop}
-use lib.Dec.{ltb, leb, eqb}
+use lib.Dec.{ltb, leb}
 use native.Mathlib.Omega.{arith}
 use borrow.Author.Tests.{ltb-true, ltb-false, leb-true, leb-false, lt-ltb, le-ltb, le-leb, lt-leb}
 use Rattle.pair.specs.Rising.{Each, keep, above, atMost, within, risingFrom, last}
-use Rattle.pair.proofs.Rising.{rising-head, rising-tail, rising-above, rising-last, rising-take, rising-rest, rising-keep, rising-join, rising-weaker, rises, rises-from, rises-tail, rises-keep, rises-rising}
-use Rattle.pair.proofs.Sets.{has, has-low, has-high, Each-members}
+use Rattle.pair.proofs.Rising.{rising-head, rising-tail, rising-take, rising-rest, rising-keep, rising-join, rising-weaker, rises, rises-from, rises-tail, rises-keep, rises-rising}
+use Rattle.pair.proofs.Sets.{has-low, has-high, Each-members}
 use Rattle.pair.proofs.Keep.{keep-append, keep-all, keep-none, keep-before, keep-after, keep-swap}
-use Rattle.pair.proofs.Each.{Each-imply, Each-kept, Each-last}
+use Rattle.pair.proofs.Each.{Each-imply, Each-keep, Each-kept, Each-last}
 
+-- parts of a rising list rise
 pub rising-atMost : (xs : List ℕ) (j k : ℕ) → risingFrom j xs ≡ true → risingFrom j (atMost k xs) ≡ true
 unfolding atMost
 rising-atMost xs j k r = rising-keep (λ x. leb x k) xs j r
@@ -21,6 +22,7 @@ pub rising-within : (xs : List ℕ) (j a z : ℕ) → risingFrom j xs ≡ true �
 unfolding within
 rising-within xs j a z r = rising-keep (λ x. leb a x && leb x z) xs j r
 
+-- parts of two lists in a row
 pub above-append : (k : ℕ) (xs ys : List ℕ) → above k (xs ++ ys) ≡ above k xs ++ above k ys
 unfolding above
 above-append k xs ys = keep-append (ltb k) xs ys
@@ -75,6 +77,7 @@ rises-parts (x ∷ xs) k r = go (leb x k) (ltb k x) refl refl (rises-parts xs k 
         rw (atMost-none xs k x q r, above-all xs k x q r)
     go false false e f ih = absurd (let a : k < x = leb-false x k e in let b : x ≤ k = ltb-false k x f in omega arith)
 
+-- the same for a list that rises from a given start
 pub parts : (xs : List ℕ) (j k : ℕ) → risingFrom j xs ≡ true → atMost k xs ++ above k xs ≡ xs
 parts xs j k r = rises-parts xs k (rises-from xs j r)
 
@@ -83,15 +86,18 @@ pub above-above : (j k : ℕ) (xs : List ℕ) → j ≤ k → above j (above k x
 unfolding above
 above-above j k xs h = keep-after (ltb j) (ltb k) (λ x e. let l : k < x = ltb-true k x e in lt-ltb j x (omega arith)) xs
 
+-- the part above k of a part above j is that above k
 pub above-further : (j k : ℕ) (xs : List ℕ) → j ≤ k → above k (above j xs) ≡ above k xs
 unfolding above
 above-further j k xs h = keep-before (ltb k) (ltb j) (λ x e. let l : k < x = ltb-true k x e in lt-ltb j x (omega arith)) xs
 
+-- a part up to j is all up to k
 pub atMost-atMost : (j k : ℕ) (xs : List ℕ) → j ≤ k → atMost k (atMost j xs) ≡ atMost j xs
 unfolding atMost
 atMost-atMost j k xs h =
     keep-after (λ x. leb x k) (λ x. leb x j) (λ x e. let l : x ≤ j = leb-true x j e in le-leb x k (omega arith)) xs
 
+-- the part up to j of a part up to k is that up to j
 pub atMost-nearer : (j k : ℕ) (xs : List ℕ) → j ≤ k → atMost j (atMost k xs) ≡ atMost j xs
 unfolding atMost
 atMost-nearer j k xs h =
@@ -150,24 +156,43 @@ unfolding atMost
 Each-atMost k xs =
     Each-imply (λ x. leb x k ≡ true) (λ x. x ≤ k) (λ x e. leb-true x k e) (keep (λ x. leb x k) xs) (Each-kept (λ x. leb x k) xs)
 
+-- what holds of every element holds of those above k and of those up to k
+pub above-Each : (P : ℕ → Type 0) (k : ℕ) (xs : List ℕ) → Each P xs → Each P (above k xs)
+unfolding above
+above-Each P k xs a = Each-keep P (ltb k) xs a
+
+pub atMost-Each : (P : ℕ → Type 0) (k : ℕ) (xs : List ℕ) → Each P xs → Each P (atMost k xs)
+unfolding atMost
+atMost-Each P k xs a = Each-keep P (λ x. leb x k) xs a
+
+-- the part above k rises from k
 pub rises-above : (k : ℕ) (xs : List ℕ) → rises xs ≡ true → risingFrom k (above k xs) ≡ true
 unfolding above
 rises-above k xs r = rises-rising (above k xs) k (rises-keep (ltb k) xs r) (Each-above k xs)
 
+-- the last element up to k is at most k
 pub last-atMost : (j k : ℕ) (xs : List ℕ) → j ≤ k → last j (atMost k xs) ≤ k
 last-atMost j k xs h = Each-last (λ x. x ≤ k) (atMost k xs) j h (Each-atMost k xs)
 
 -- a set made of the part of s up to k and the part of t above k
+pub above-joined-further : (j k : ℕ) (s t : List ℕ) → k ≤ j → above j (atMost k s ++ above k t) ≡ above j t
+above-joined-further j k s t h =
+    above-append j (atMost k s) (above k t) ∙ rw (above-atMost-none k j s h, above-further k j t h)
+
+-- up to j, where j is at most k, it is s
+pub atMost-joined-nearer : (j k : ℕ) (s t : List ℕ) → j ≤ k → atMost j (atMost k s ++ above k t) ≡ atMost j s
+atMost-joined-nearer j k s t h =
+    atMost-append j (atMost k s) (above k t)
+    ∙ rw (atMost-nearer j k s h, atMost-above-none j k t h) (append-nil (atMost j s))
+
+-- at k itself
 pub above-joined : (k : ℕ) (s t : List ℕ) → above k (atMost k s ++ above k t) ≡ above k t
-above-joined k s t =
-    above-append k (atMost k s) (above k t)
-    ∙ rw (above-atMost-none k k s (omega arith), above-above k k t (omega arith))
+above-joined k s t = above-joined-further k k s t (omega arith)
 
 pub atMost-joined : (k : ℕ) (s t : List ℕ) → atMost k (atMost k s ++ above k t) ≡ atMost k s
-atMost-joined k s t =
-    atMost-append k (atMost k s) (above k t)
-    ∙ rw (atMost-atMost k k s (omega arith), atMost-above-none k k t (omega arith)) (append-nil (atMost k s))
+atMost-joined k s t = atMost-joined-nearer k k s t (omega arith)
 
+-- it rises
 pub rising-joined : (j k : ℕ) (s t : List ℕ) → j ≤ k → risingFrom j s ≡ true → rises t ≡ true → risingFrom j (atMost k s ++ above k t) ≡ true
 rising-joined j k s t h r q =
     rising-join (atMost k s) (above k t) j (rising-atMost s j k r)
@@ -181,5 +206,6 @@ rises-next xs k x rest r e =
     let q : k ≤ x = omega arith in
     sym (above-further k x xs q) ∙ rw e (above-first x rest k s)
 
+-- the same for a list that rises from a given start
 pub above-next : (xs : List ℕ) (j k x : ℕ) (rest : List ℕ) → risingFrom j xs ≡ true → above k xs ≡ x ∷ rest → above x xs ≡ rest
 above-next xs j k x rest r e = rises-next xs k x rest (rises-from xs j r) e

@@ -1,14 +1,14 @@
 -- Rising lists: where they start, where they end, and what keeps them rising.
-use Prim.Native.Nat.{ℕ, zero, suc, _≤_, _<_}
-use mathlib.Core.Path.{_≡_, refl, sym, _∙_}
-use mathlib.Core.Bool.{Bool, true, false, cond, _&&_, _||_, not, and-assoc}
+use Prim.Native.Nat.{ℕ, _≤_, _<_}
+use mathlib.Core.Path.{_≡_, refl, sym}
+use mathlib.Core.Bool.{Bool, true, false, cond, _&&_, and-assoc}
 use mathlib.Core.Logic.{_≢_}
 use mathlib.Core.List.{List, [], _∷_, _++_}
-use lib.ListN.{take, drop, take-append-drop}
-use lib.Dec.{ltb, leb, eqb}
+use lib.ListN.{length, take, drop, take-append-drop}
+use lib.Dec.{ltb, eqb}
 use native.Mathlib.Omega.{arith}
-use borrow.Author.Tests.{ltb-true, ltb-false, eqb-true, eqb-false, lt-ltb}
-use Rattle.pair.specs.Rising.{Each, keep, above, atMost, within, risingFrom, insert, last}
+use borrow.Author.Tests.{ltb-true, ltb-false, eqb-false, lt-ltb}
+use Rattle.pair.specs.Rising.{Each, keep, above, risingFrom, insert, last}
 use Rattle.pair.proofs.Tests.{and-left, and-right, and-both}
 
 -- a rising list begins with a number above its start, and goes on rising from there
@@ -37,6 +37,7 @@ unfolding risingFrom last
 rising-append [] ys k = refl
 rising-append (x ∷ xs) ys k = rw (rising-append xs ys x) (sym (and-assoc (ltb k x) (risingFrom x xs) (risingFrom (last x xs) ys)))
 
+-- each of the two, and both together
 pub rising-first : (xs ys : List ℕ) (k : ℕ) → risingFrom k (xs ++ ys) ≡ true → risingFrom k xs ≡ true
 rising-first xs ys k r = and-left (risingFrom k xs) (risingFrom (last k xs) ys) (rw (rising-append xs ys k) at r)
 
@@ -55,10 +56,20 @@ rising-last (x ∷ xs) k r =
     let m : x ≤ last x xs = rising-last xs x (rising-tail x xs k r) in
     omega arith
 
+-- and above it where it has an element
+pub rising-last-above : (xs : List ℕ) (k d : ℕ) → 0 < length xs → risingFrom k xs ≡ true → k < last d xs
+unfolding last
+rising-last-above [] k d h r = absurd (omega arith)
+rising-last-above (x ∷ xs) k d h r =
+    let l : k < x = rising-head x xs k r in
+    let m : x ≤ last x xs = rising-last xs x (rising-tail x xs k r) in
+    omega arith
+
 -- parts of a rising list rise
 pub rising-take : (n : ℕ) (xs : List ℕ) (k : ℕ) → risingFrom k xs ≡ true → risingFrom k (take n xs) ≡ true
 rising-take n xs k r = rising-first (take n xs) (drop n xs) k (rw (take-append-drop n xs) r)
 
+-- what follows a beginning rises from its last element
 pub rising-rest : (n : ℕ) (xs : List ℕ) (k : ℕ) → risingFrom k xs ≡ true → risingFrom (last k (take n xs)) (drop n xs) ≡ true
 rising-rest n xs k r = rising-second (take n xs) (drop n xs) k (rw (take-append-drop n xs) r)
 
@@ -66,6 +77,7 @@ pub rising-drop : (n : ℕ) (xs : List ℕ) (k : ℕ) → risingFrom k xs ≡ tr
 rising-drop n xs k r =
     rising-weaker (drop n xs) k (last k (take n xs)) (rising-last (take n xs) k (rising-take n xs k r)) (rising-rest n xs k r)
 
+-- so does what a test keeps
 pub rising-keep : (f : ℕ → Bool) (xs : List ℕ) (k : ℕ) → risingFrom k xs ≡ true → risingFrom k (keep f xs) ≡ true
 unfolding keep risingFrom
 rising-keep f [] k r = refl
@@ -85,6 +97,7 @@ rising-above (x ∷ xs) j k r = go (ltb k x) refl (rising-above xs x k (rising-t
     go true e ih = rising-cons x (above k xs) k (ltb-true k x e) (rising-keep (ltb k) xs x (rising-tail x xs j r))
     go false e ih = ih
 
+-- so does the list with a number above its start put in
 pub rising-insert : (n : ℕ) (xs : List ℕ) (k : ℕ) → k < n → risingFrom k xs ≡ true → risingFrom k (insert n xs) ≡ true
 unfolding insert risingFrom
 rising-insert n [] k h r = rising-cons n [] k h refl
@@ -110,6 +123,7 @@ unfoldable pub rises : List ℕ → Bool
 rises [] = true
 rises (x ∷ xs) = risingFrom x xs
 
+-- a list that rises from a start rises
 pub rises-from : (xs : List ℕ) (k : ℕ) → risingFrom k xs ≡ true → rises xs ≡ true
 unfolding rises
 rises-from [] k r = refl
@@ -119,6 +133,7 @@ pub rises-tail : (x : ℕ) (xs : List ℕ) → rises (x ∷ xs) ≡ true → ris
 unfolding rises
 rises-tail x xs r = rises-from xs x r
 
+-- what keeps such a list rising
 pub rises-keep : (f : ℕ → Bool) (xs : List ℕ) → rises xs ≡ true → rises (keep f xs) ≡ true
 unfolding rises keep
 rises-keep f [] r = refl

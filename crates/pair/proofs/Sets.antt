@@ -1,12 +1,12 @@
 -- Membership, and the law that two rising lists with the same members are equal.
-use Prim.Native.Nat.{ℕ, zero, suc, _≤_, _<_}
+use Prim.Native.Nat.{ℕ, _≤_, _<_}
 use mathlib.Core.Path.{_≡_, refl, sym, ap, _∙_}
-use mathlib.Core.Bool.{Bool, true, false, cond, _&&_, _||_, not, true≢false, false≢true, or-assoc, and-false}
+use mathlib.Core.Bool.{Bool, true, false, cond, _&&_, _||_, true≢false, false≢true, or-assoc, and-false}
 use mathlib.Core.List.{List, [], _∷_, _++_}
-use mathlib.Core.Logic.{_≢_, _⊎_, inl, inr}
-use lib.Dec.{ltb, leb, eqb}
+use mathlib.Core.Logic.{_⊎_, inl, inr}
+use lib.Dec.{ltb, eqb}
 use native.Mathlib.Omega.{arith}
-use borrow.Author.Tests.{ltb-true, ltb-false, eqb-true, eqb-false, lt-ltb, eq-eqb, ne-eqb}
+use borrow.Author.Tests.{ltb-true, eqb-true, lt-ltb, eq-eqb}
 use Rattle.pair.specs.Rising.{Each, keep, risingFrom, insert, last, any}
 use Rattle.pair.proofs.Tests.{and-left, and-right, and-both, or-cases, or-intro, contradiction, test-ext}
 use Rattle.pair.proofs.Rising.{rising-head, rising-tail, rising-last, rises, rises-from, rises-tail}
@@ -17,6 +17,7 @@ use Rattle.pair.proofs.Keep.{keep-agree}
 unfoldable pub has : ℕ → List ℕ → Bool
 has x xs = any (eqb x) xs
 
+-- of two lists in a row
 pub has-append : (x : ℕ) (xs ys : List ℕ) → has x (xs ++ ys) ≡ (has x xs || has x ys)
 unfolding has any
 has-append x [] ys = refl
@@ -81,6 +82,7 @@ has-high (y ∷ ys) x k r h = go (or-cases (eqb x y) (has x ys) h) (has-high ys 
     go (inl e) ih = rw (eqb-true x y e) (rising-last ys y (rising-tail y ys k r))
     go (inr m) ih = ih m
 
+-- the first element is a member, and an empty list has none
 pub has-head : (x : ℕ) (xs : List ℕ) → has x (x ∷ xs) ≡ true
 unfolding has any
 has-head x xs = rw (eq-eqb x x refl)
@@ -134,6 +136,7 @@ rises-ext (x ∷ xs) (y ∷ ys) r s h = rw (first, rises-ext xs ys (rises-tail x
     rest : (z : ℕ) → has z xs ≡ has z ys
     rest z = has-rest x xs z r ∙ rw (h z, first) (sym (has-rest y ys z s))
 
+-- the same for lists that rise from given starts
 pub rising-ext : (xs ys : List ℕ) (j k : ℕ) → risingFrom j xs ≡ true → risingFrom k ys ≡ true → ((x : ℕ) → has x xs ≡ has x ys) → xs ≡ ys
 rising-ext xs ys j k r s h = rises-ext xs ys (rises-from xs j r) (rises-from ys k s) h
 
@@ -147,6 +150,7 @@ Each-has P (y ∷ ys) x a h = go (or-cases (eqb x y) (has x ys) h) (Each-has P y
     go (inl e) ih = rw (eqb-true x y e) (a .0)
     go (inr m) ih = ih m
 
+-- what holds of every member holds of each element
 pub Each-members : (P : ℕ → Type 0) (xs : List ℕ) → ((x : ℕ) → has x xs ≡ true → P x) → Each P xs
 unfolding has any
 Each-members P [] f = tt

@@ -5,7 +5,7 @@ use mathlib.Core.Bool.{Bool, true, false, cond, _&&_, _||_, not, true≢false, f
 use mathlib.Core.Logic.{_⊎_, inl, inr}
 use lib.Dec.{ltb, leb, eqb}
 use native.Mathlib.Omega.{arith}
-use borrow.Author.Tests.{ltb-true, ltb-false, leb-true, leb-false, eqb-true, eqb-false, lt-ltb, le-ltb, le-leb, lt-leb, eq-eqb, ne-eqb}
+use borrow.Author.Tests.{ltb-true, ltb-false, leb-true, leb-false, eqb-true, lt-ltb, le-ltb, eq-eqb}
 
 -- a conjunction holds exactly where both sides do
 pub and-left : (a b : Bool) → (a && b) ≡ true → a ≡ true
@@ -43,6 +43,7 @@ or-intro true b h = refl
 or-intro false b (inl e) = absurd (false≢true e)
 or-intro false b (inr e) = e
 
+-- no test is both true and false
 pub contradiction : {X : Type 0} (a : Bool) → a ≡ true → a ≡ false → X
 contradiction true e f = absurd (true≢false f)
 contradiction false e f = absurd (false≢true e)
@@ -58,9 +59,15 @@ test-ext true b f g = sym (f refl)
 test-ext false true f g = g refl
 test-ext false false f g = refl
 
+-- a choice between equals
 pub cond-same {ℓ} : {A : Type ℓ} (t : Bool) (x : A) → cond t x x ≡ x
 cond-same true x = refl
 cond-same false x = refl
+
+-- what holds of both sides of a choice holds of the choice
+pub cond-both {ℓ} : {A : Type ℓ} (P : A → Type 0) (t : Bool) (x y : A) → (t ≡ true → P x) → (t ≡ false → P y) → P (cond t x y)
+cond-both P true x y f g = f refl
+cond-both P false x y f g = g refl
 
 -- the tests of two pairs of numbers agree where the facts do
 pub ltb-agree : (a b c d : ℕ) → (a < b → c < d) → (c < d → a < b) → ltb a b ≡ ltb c d
@@ -74,6 +81,7 @@ leb-not-ltb a b = go (leb a b) refl
     go true e = rw (le-ltb b a (leb-true a b e))
     go false e = rw (lt-ltb b a (leb-false a b e))
 
+-- equality is tested either way round
 pub eqb-swap : (a b : ℕ) → eqb a b ≡ eqb b a
 eqb-swap a b =
     test-ext (eqb a b) (eqb b a) (λ e. eq-eqb b a (sym (eqb-true a b e))) (λ e. eq-eqb a b (sym (eqb-true b a e)))

@@ -1,1 +1,14 @@
 pub mod Blocks
+pub mod Configuration
+pub mod Configured
+pub mod Crowded
+pub mod Ends
+pub mod Frame
+pub mod Grown
+pub mod Next
+pub mod Room
+pub mod Roomy
+pub mod Settled
+pub mod Spent
+pub mod Steps
+pub mod Writes

@@ -1,0 +1,93 @@
+-- With a removals-only batch, kept throughout, number 8 never occurs if two places were free at its first step.
+use Prim.Native.Nat.{ℕ}
+use native.Mathlib.Omega.{arith}
+use mathlib.Core.Path.{_≡_, refl, sym}
+use mathlib.Core.Bool.{Bool, true, false, cond}
+use mathlib.Core.List.{List, [], _∷_}
+use mathlib.Core.Logic.{inl}
+use lib.Seq.{sets}
+use lib.Dec.{eqb}
+use borrow.Author.Tests.{ne-eqb}
+use Rattle.pair.specs.Rank.{Words}
+use Rattle.pair.proofs.Order.{term-rank, position-rank}
+use Rattle.card.specs.Layout.{word, blockSize, placeCount, oldLength, entryWidth, entryAt, placeAt, boundary, live, formatNumber}
+use Rattle.card.specs.Sound.{judged}
+use Rattle.card.proofs.Circle.{length-around}
+use Rattle.card.proofs.Facts.{Facts, facts}
+use Rattle.card.proofs.Formatted.{formatted-refused}
+use Rattle.batch.specs.Batch.{batchNumber}
+use Rattle.update.specs.Step.{remains, duePlace, nextWrite, written, stepNumber, taken, step}
+use Rattle.update.proofs.Crowded.{Removals}
+use Rattle.update.proofs.Roomy.{Roomy, roomy-alike, roomy-configuration, roomy-number, roomy-written}
+use Rattle.update.proofs.Steps.{step-taken}
+use Rattle.update.proofs.Writes.{three, alike-duePlace, alike-dueEntry}
+use Rattle.history.specs.History.{History, Event, stepped, cut, looked, restarted, formats, just, torn, after, told, AllOfWords}
+use Rattle.history.specs.Claims.{Lends, Keeps, ran, freePlaces, RemovalsNeverFull}
+use Rattle.history.proofs.Keeping.{Keeping}
+use Rattle.history.proofs.Events.{length-just, keeping-after}
+
+-- the history that tells just what stands on a card
+toldBy : List ℕ → History
+toldBy c = record { size = blockSize c; pairs = live c; mark = boundary c }
+
+keeping-toldBy : (c : List ℕ) → judged c ≡ 0 → Words c → Keeping c (toldBy c)
+unfolding toldBy Words
+keeping-toldBy c j w =
+    record {
+      sound = j;
+      words = w;
+      index = refl;
+      markTerm = sym (term-rank (word c 6) (word c 7) (w 7));
+      markPosition = sym (position-rank (word c 6) (word c 7) (w 7));
+      size = refl;
+    }
+
+module _ (c b : List ℕ) (f : Facts c) (j : judged c ≡ 0) (w : Words c) (n : batchNumber b ≡ 0) (o : Removals b) (h : Roomy b c) where
+  taking : step c b ≡ taken c (remains c b) (nextWrite c (remains c b))
+  taking = step-taken c b (roomy-number b c j w n o h)
+
+  -- a step keeps the room
+  roomy-step : Roomy b (step c b .card)
+  unfolding taken
+  roomy-step = rw taking (roomy-written b c f w o h)
+
+  -- so does a cut step
+  roomy-torn : (ws : List ℕ) (l : Bool) → Roomy b (torn c b ws l)
+  unfolding torn taken written
+  roomy-torn ws l =
+      rw taking
+      (three c r P (λ some. roomy-alike b c _ (alike-duePlace c (just (blockSize c) ws) f (length-just (blockSize c) ws)) h)
+      (λ some placed. roomy-alike b c _ (alike-dueEntry c (just entryWidth ws) f (length-just entryWidth ws)) h)
+      (λ ready. lands l))
+    where
+      r : List ℕ
+      r = remains c b
+
+      P : ℕ → Type 0
+      P x = Roomy b (cond (eqb x 1) (sets c (placeAt entryWidth c (duePlace c)) (just (blockSize c) ws))
+          (cond (eqb x 2) (sets c (entryAt entryWidth (duePlace c)) (just entryWidth ws)) (cond l (written c r x) c)))
+
+      lands : (t : Bool) → Roomy b (cond t (written c r 3) c)
+      lands true = roomy-configuration b c f w o h
+      lands false = h
+
+-- every event that lends the batch keeps the room
+roomy-after : (c b : List ℕ) (e : Event) → judged c ≡ 0 → Words c → batchNumber b ≡ 0 → Removals b → Lends c b e → Roomy b c → Roomy b (after c e)
+unfolding after Lends
+roomy-after c b (stepped x) j w n o l h = rw l (roomy-step c b (facts c j) j w n o h)
+roomy-after c b (cut x ws t) j w n o l h = rw l (roomy-torn c b (facts c j) j w n o h ws t)
+roomy-after c b (looked t a z answer) j w n o l h = h
+roomy-after c b restarted j w n o l h = h
+roomy-after c b (formats x m) j w n o l h = rw (formatted-refused c x m (ne-eqb (formatNumber c x m) 0 l)) h
+
+never : (c b : List ℕ) (k : History) (es : List Event) → Keeping c k → AllOfWords es → batchNumber b ≡ 0 → Removals b → Roomy b c → Keeps c b es →
+    stepNumber (ran c es) b ≡ 0
+unfolding ran AllOfWords Keeps
+never c b k [] s w n o h l = roomy-number b c (s .sound) (s .words) n o h
+never c b k (e ∷ es) s w n o h l =
+    never (after c e) b (told c e k) es (keeping-after c e k s (w .0)) (w .1) n o (roomy-after c b e (s .sound) (s .words) n o (l .0) h) (l .1)
+
+pub removalsNeverFull : RemovalsNeverFull
+unfolding RemovalsNeverFull freePlaces
+removalsNeverFull c b es wc wb we j n o two l =
+    never c b (toldBy c) es (keeping-toldBy c j wc) we n o (inl (rw (length-around (placeCount c) _ (oldLength c)) (omega arith))) l
