@@ -5,6 +5,7 @@ pub mod Crowded
 pub mod Ends
 pub mod Frame
 pub mod Grown
+pub mod Holding
 pub mod Next
 pub mod Room
 pub mod Roomy

@@ -1,1 +1,2 @@
-// The definitions of this crate; its code follows.
+// One step of a pass.
+mod packing;
