@@ -1,1 +1,206 @@
-// The definitions of this crate; its code follows.
+// The card: 8 configuration words, the map, the places. The formatter and the judge.
+ghost use mathlib.Core.Path.{_≡_};
+ghost use mathlib.Core.Bool.{cond, _&&_};
+ghost use Prim.Native.Nat.{_≤_, _<_};
+ghost use lib.Dec.{ltb, eqb};
+ghost use Rattle.pair.specs.Rising.{firstOf};
+ghost use Rattle.card.specs.Layout.{placeCount, oldStart, oldLength, entryWidth, cardLength, inLimits, around, oldPlaces, formatNumber, formatted};
+ghost use Rattle.card.specs.Sound.{firstReaches, configurationConditions, judged};
+ghost use Rattle.card.specs.Scan.{Shaped, blockScanned, segmentSound, segmentScanned};
+use block::BlockScan;
+use pair::Pair;
+
+const FORMAT: u32 = 1;
+
+const CONFIGURATION_WORDS: usize = 8;
+
+const ENTRY_WIDTH: usize = 2;
+
+const BLOCK_SIZE_LEAST: u32 = 8;
+
+const BLOCK_SIZE_MOST: u32 = 1024;
+
+const PLACE_COUNT_LEAST: u32 = 2;
+
+const PLACE_COUNT_MOST: u32 = 1024;
+
+// Whether a block size and a count of places are within their limits.
+pub fn in_limits(b: u32, n: u32) -> bool
+    ensures { λ r. ⌜ r ≡ inLimits b n ⌝ }
+{
+    (BLOCK_SIZE_LEAST <= b)
+        & (b <= BLOCK_SIZE_MOST)
+        & (PLACE_COUNT_LEAST <= n)
+        & (n <= PLACE_COUNT_MOST)
+}
+
+// The words of a card.
+fn card_length(b: u32, n: u32) -> usize
+    requires { ⌜ (b ≤ 1024) × (n ≤ 1024) ⌝ }
+    ensures { λ r. ⌜ r ≡ cardLength entryWidth b n ⌝ }
+{
+    CONFIGURATION_WORDS + ENTRY_WIDTH * n as usize + n as usize * b as usize
+}
+
+// Writes the configuration of an empty card, and nothing else.
+pub fn format(card: &mut [u32], b: u32, n: u32) -> u32
+    ensures { λ r. ⌜ (r ≡ formatNumber (now (card .entry)) b n) × (now (card .exit) ≡ formatted (now (card .entry)) b n) ⌝ }
+{
+    if !in_limits(b, n) {
+        return 5;
+    }
+    if card.len() != card_length(b, n) {
+        return 1;
+    }
+    card[0] = FORMAT;
+    card[1] = b;
+    card[2] = n;
+    card[3] = 0;
+    card[4] = 0;
+    card[5] = 0;
+    card[6] = 0;
+    card[7] = 0;
+    0
+}
+
+// Whether the boundary words agree with the length of the new segment: both 0 where it is 0, a pair where it is not.
+fn boundary_agrees(new_length: u32, term: u32, position: u32) -> bool
+    ensures { λ r. ⌜ r ≡ cond (eqb «new_length» 0) (eqb term 0 && eqb position 0) (ltb 0 term && ltb 0 position) ⌝ }
+{
+    if new_length == 0 {
+        return (term == 0) & (position == 0);
+    }
+    pair::is_pair(term, position)
+}
+
+// The judge's number for the length and the configuration words, 0 where they are in order.
+fn configuration_number(card: &[u32]) -> u32
+    ensures { λ r. ⌜ r ≡ firstOf (configurationConditions (now (card .entry))) ⌝ }
+{
+    if card.len() < CONFIGURATION_WORDS {
+        return 1;
+    }
+    if card[0] != FORMAT {
+        return 2;
+    }
+    let b = card[1];
+    let n = card[2];
+    if !in_limits(b, n) {
+        return 3;
+    }
+    if card.len() != card_length(b, n) {
+        return 1;
+    }
+    if n <= card[3] {
+        return 3;
+    }
+    let live = card[4] as u64 + card[5] as u64;
+    let most = (n - 1) as u64;
+    if most < live {
+        return 3;
+    }
+    if !boundary_agrees(card[5], card[6], card[7]) {
+        return 3;
+    }
+    0
+}
+
+// What the walk over the live blocks of a segment tells: whether they are sound and rise, and the rank of the last pair, 0 where they do not.
+pub struct SegmentScan {
+    pub sound: bool,
+    pub last: u64,
+}
+
+const UNSOUND: SegmentScan = SegmentScan {
+    sound: false,
+    last: 0,
+};
+
+// Scans the block at a place and compares its first pair with the map.
+fn scan_place(card: &[u32], i: usize) -> BlockScan
+    requires { ⌜ Shaped (now card) ⌝ }
+    requires { ⌜ i < placeCount (now card) ⌝ }
+    ensures { λ r. ⌜ r ≡ blockScanned (now (card .entry)) i ⌝ }
+{
+    let size = card[1] as usize;
+    let start = CONFIGURATION_WORDS + ENTRY_WIDTH * card[2] as usize + i * size;
+    let end = start + size;
+    let block = block::scan(&card[start..end]);
+    let entry = CONFIGURATION_WORDS + ENTRY_WIDTH * i;
+    let mapped = Pair {
+        term: card[entry],
+        position: card[entry + 1],
+    };
+    if block.formed & (mapped.rank() == block.first) {
+        return block;
+    }
+    BlockScan {
+        formed: false,
+        first: 0,
+        last: 0,
+    }
+}
+
+// Scans len places from start, around the circle, whose pairs are to rise above the rank after.
+fn scan_segment(card: &[u32], start: usize, len: usize, after: u64) -> SegmentScan
+    requires { ⌜ Shaped (now card) ⌝ }
+    requires { ⌜ (start ≤ 2048) × (len ≤ 1024) ⌝ }
+    ensures { λ r. ⌜ r ≡ segmentScanned (now (card .entry)) after (around (placeCount (now (card .entry))) start len) ⌝ }
+{
+    let places = card[2] as usize;
+    let mut last = after;
+    let mut j: usize = 0;
+    while j < len {
+        let block = scan_place(card, (start + j) % places);
+        let rises = last < block.first;
+        if !(block.formed & rises) {
+            return UNSOUND;
+        }
+        last = block.last;
+        j += 1;
+    }
+    SegmentScan { sound: true, last }
+}
+
+// Whether the old segment is sound and rises, and its first block reaches above the boundary.
+fn old_is_sound(card: &[u32], boundary: u64) -> bool
+    requires { ⌜ Shaped (now card) ⌝ }
+    requires { ⌜ (oldStart (now card) < placeCount (now card)) × (oldLength (now card) < placeCount (now card)) ⌝ }
+    ensures { λ r. ⌜ r ≡ (segmentSound (now (card .entry)) 0 (oldPlaces (now (card .entry))) && firstReaches (now (card .entry)) boundary (oldPlaces (now (card .entry)))) ⌝ }
+{
+    let start = card[3] as usize;
+    let len = card[4] as usize;
+    if len == 0 {
+        return true;
+    }
+    let first = scan_place(card, start);
+    if !(first.formed & (boundary < first.last)) {
+        return false;
+    }
+    let rest = scan_segment(card, start + 1, len - 1, first.last);
+    rest.sound
+}
+
+// The number of a card, 0 where it is sound.
+pub fn judge(card: &[u32]) -> u32
+    ensures { λ r. ⌜ r ≡ judged (now (card .entry)) ⌝ }
+{
+    let number = configuration_number(card);
+    if number != 0 {
+        return number;
+    }
+    let start = card[3] as usize + card[4] as usize;
+    let new = scan_segment(card, start, card[5] as usize, 0);
+    let bound = Pair {
+        term: card[6],
+        position: card[7],
+    };
+    let boundary = bound.rank();
+    if !(new.sound & (new.last == boundary)) {
+        return 4;
+    }
+    if !old_is_sound(card, boundary) {
+        return 4;
+    }
+    0
+}

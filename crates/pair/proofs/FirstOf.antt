@@ -32,6 +32,13 @@ unfolding firstOf
 firstOf-append [] after h = refl
 firstOf-append (c ∷ cs) after h = rw (h .0) (firstOf-append cs after (h .1))
 
+-- a number that comes out keeps later conditions out
+pub firstOf-early : (before after : List (Bool × ℕ)) → (firstOf before ≡ 0 → ⊥) → firstOf (before ++ after) ≡ firstOf before
+unfolding firstOf
+firstOf-early [] after h = absurd (h refl)
+firstOf-early ((true, n) ∷ cs) after h = refl
+firstOf-early ((false, n) ∷ cs) after h = firstOf-early cs after h
+
 -- the number comes out where its condition holds and none before it does
 pub firstOf-gives : (cs : List (Bool × ℕ)) (n : ℕ) → FirstAt cs n → firstOf cs ≡ n
 unfolding firstOf

@@ -1,0 +1,40 @@
+-- What the judge's walk over live blocks tells.
+use Prim.Native.Nat.{ℕ, _≤_}
+use mathlib.Core.Path.{_≡_}
+use mathlib.Core.Bool.{Bool, cond, _&&_}
+use mathlib.Core.List.{List}
+use lib.ListN.{length, getD}
+use lib.Dec.{eqb}
+use Rattle.pair.specs.Rising.{risingFrom, last}
+use Rattle.block.specs.Block.{pairs, formed}
+use Rattle.block.specs.declared.BlockScan.{BlockScan}
+use Rattle.card.specs.declared.SegmentScan.{SegmentScan}
+use Rattle.card.specs.Layout.{blockSize, placeCount, entryWidth, cardLength, firstPair, place, pairsAt}
+use Rattle.card.specs.Sound.{blocksSound}
+
+-- the block size and the count of places are within their limits, and the card has the length that they give
+pub record Shaped (c : List ℕ) : Type 0 where
+  pub sizeHigh : blockSize c ≤ 1024
+  pub countLow : 2 ≤ placeCount c
+  pub countHigh : placeCount c ≤ 1024
+  pub long : length c ≡ cardLength entryWidth (blockSize c) (placeCount c)
+
+-- the block at a place is a live block, and its map entry is its first pair
+abbrev pub liveBlock : List ℕ → ℕ → Bool
+liveBlock c i = formed (place c i) && eqb (firstPair c i) (getD (pairs (place c i)) 0 0)
+
+unfoldable pub blockScanned : List ℕ → ℕ → BlockScan
+blockScanned c i =
+    record {
+      formed = liveBlock c i;
+      first = cond (liveBlock c i) (getD (pairs (place c i)) 0 0) 0;
+      last = cond (liveBlock c i) (last 0 (pairs (place c i))) 0;
+    }
+
+-- the blocks at the places are sound, and their pairs rise from block to block, the first above k
+abbrev pub segmentSound : List ℕ → ℕ → List ℕ → Bool
+segmentSound c k is = blocksSound c is && risingFrom k (pairsAt c is)
+
+unfoldable pub segmentScanned : List ℕ → ℕ → List ℕ → SegmentScan
+segmentScanned c k is =
+    record { sound = segmentSound c k is; last = cond (segmentSound c k is) (last k (pairsAt c is)) 0 }

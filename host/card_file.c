@@ -1,0 +1,170 @@
+/* Card files, read and written in whole words. */
+#define _POSIX_C_SOURCE 200809L
+
+#include "card_file.h"
+
+#include <errno.h>
+#include <fcntl.h>
+#include <stdarg.h>
+#include <stdio.h>
+#include <stdlib.h>
+#include <string.h>
+#include <sys/stat.h>
+#include <unistd.h>
+
+#include "gameindex.h"
+
+enum { WORD_BYTES = 4 };
+
+int fault(const char *path, const char *form, ...) {
+    va_list words;
+    va_start(words, form);
+    fprintf(stderr, "gameindex: %s: ", path);
+    vfprintf(stderr, form, words);
+    fputc('\n', stderr);
+    va_end(words);
+    return EXIT_FAULT;
+}
+
+static uint32_t word_from(const unsigned char *bytes) {
+    return bytes[0] | (uint32_t)bytes[1] << 8 | (uint32_t)bytes[2] << 16 | (uint32_t)bytes[3] << 24;
+}
+
+static void word_to(unsigned char *bytes, uint32_t word) {
+    for (int i = 0; i < WORD_BYTES; i++)
+        bytes[i] = (unsigned char)(word >> 8 * i);
+}
+
+/* Reads length bytes from the start of a file; false with errno set on an
+ * error, errno 0 where the file ends early. */
+static bool read_bytes(int file, unsigned char *bytes, size_t length) {
+    size_t done = 0;
+    while (done < length) {
+        ssize_t got = pread(file, bytes + done, length - done, (off_t)done);
+        if (got < 0 && errno == EINTR)
+            continue;
+        if (got <= 0) {
+            errno = got < 0 ? errno : 0;
+            return false;
+        }
+        done += (size_t)got;
+    }
+    return true;
+}
+
+/* Writes length bytes at an offset; false with errno set on an error. */
+static bool write_bytes(int file, const unsigned char *bytes, size_t length, size_t offset) {
+    size_t done = 0;
+    while (done < length) {
+        ssize_t put = pwrite(file, bytes + done, length - done, (off_t)(offset + done));
+        if (put < 0 && errno == EINTR)
+            continue;
+        if (put < 0)
+            return false;
+        done += (size_t)put;
+    }
+    return true;
+}
+
+/* Writes count words at word first and syncs the file; false with errno set on
+ * an error. */
+static bool write_words(int file, const uint32_t *words, size_t first, size_t count) {
+    unsigned char *bytes = malloc(count * WORD_BYTES);
+    if (bytes == NULL)
+        return false;
+    for (size_t i = 0; i < count; i++)
+        word_to(bytes + i * WORD_BYTES, words[i]);
+    bool written = write_bytes(file, bytes, count * WORD_BYTES, first * WORD_BYTES) && fsync(file) == 0;
+    int kept = errno;
+    free(bytes);
+    errno = kept;
+    return written;
+}
+
+/* Reads the words of an open file. */
+static int read_words(struct card_file *card) {
+    struct stat about;
+    if (fstat(card->file, &about) != 0)
+        return fault(card->path, "%s", strerror(errno));
+    if (!S_ISREG(about.st_mode))
+        return fault(card->path, "not a regular file");
+    if (about.st_size % WORD_BYTES != 0)
+        return fault(card->path, "%jd bytes are not a whole number of 32-bit words", (intmax_t)about.st_size);
+    uintmax_t words = (uintmax_t)about.st_size / WORD_BYTES;
+    card->length = words > GI_CARD_WORDS_MAX ? (size_t)GI_CARD_WORDS_MAX + 1 : (size_t)words;
+
+    /* one word more, so that an empty file has memory too */
+    unsigned char *bytes = malloc((card->length + 1) * WORD_BYTES);
+    card->words = malloc((card->length + 1) * sizeof *card->words);
+    int status = EXIT_DONE;
+    if (bytes == NULL || card->words == NULL)
+        status = fault(card->path, "no memory for %zu words", card->length);
+    else if (!read_bytes(card->file, bytes, card->length * WORD_BYTES))
+        status = fault(card->path, "%s", errno != 0 ? strerror(errno) : "the file became shorter while it was read");
+    else
+        for (size_t i = 0; i < card->length; i++)
+            card->words[i] = word_from(bytes + i * WORD_BYTES);
+    free(bytes);
+    return status;
+}
+
+int card_open(struct card_file *card, const char *path, bool writable) {
+    *card = (struct card_file){.path = path};
+    card->file = open(path, (writable ? O_RDWR : O_RDONLY) | O_CLOEXEC);
+    if (card->file < 0)
+        return fault(path, "%s", strerror(errno));
+    int status = read_words(card);
+    if (status != EXIT_DONE) {
+        close(card->file);
+        free(card->words);
+    }
+    return status;
+}
+
+int card_store(const struct card_file *card, size_t first, size_t count) {
+    if (!write_words(card->file, card->words + first, first, count))
+        return fault(card->path, "%s", strerror(errno));
+    return EXIT_DONE;
+}
+
+int card_close(struct card_file *card) {
+    free(card->words);
+    card->words = NULL;
+    if (close(card->file) != 0)
+        return fault(card->path, "%s", strerror(errno));
+    return EXIT_DONE;
+}
+
+/* Has the name of a new file on the medium: syncs the folder that it is in. */
+static bool sync_folder(const char *path) {
+    const char *slash = strrchr(path, '/');
+    /* "." for a bare name, "/" for a file of the root */
+    char *folder = slash == NULL ? strdup(".") : strndup(path, slash == path ? 1 : (size_t)(slash - path));
+    if (folder == NULL)
+        return false;
+    int file = open(folder, O_RDONLY | O_DIRECTORY | O_CLOEXEC);
+    free(folder);
+    if (file < 0)
+        return false;
+    bool synced = fsync(file) == 0;
+    int kept = errno;
+    close(file);
+    errno = kept;
+    return synced;
+}
+
+int card_create(const char *path, const uint32_t *words, size_t length) {
+    int file = open(path, O_RDWR | O_CREAT | O_EXCL | O_CLOEXEC, 0666);
+    if (file < 0)
+        return fault(path, "%s", strerror(errno));
+    bool made = write_words(file, words, 0, length) && sync_folder(path);
+    int kept = errno;
+    if (close(file) != 0 && made) {
+        made = false;
+        kept = errno;
+    }
+    if (made)
+        return EXIT_DONE;
+    unlink(path);
+    return fault(path, "%s", strerror(kept));
+}

@@ -1,0 +1,218 @@
+/* gameindex: the host program of the game index, over libgameindex.a.
+ *
+ * Exit status: 0 done, 1 the index refused (the number is shown), 2 the file or
+ * the command line is at fault. */
+#define _POSIX_C_SOURCE 200809L
+
+#include <errno.h>
+#include <inttypes.h>
+#include <stdbool.h>
+#include <stdio.h>
+#include <stdlib.h>
+#include <string.h>
+#include <unistd.h>
+
+#include "card_file.h"
+#include "gameindex.h"
+
+/* ---- numbers */
+
+/* The meaning of each number, in plain words. */
+static const char *const meanings[] = {
+    [GI_DONE] = "sound",
+    [GI_CARD_LENGTH] = "the card has not the length that its block size and places ask for",
+    [GI_CARD_FORMAT] = "the card has an unknown format, or none",
+    [GI_CARD_CONFIGURATION] = "a configuration word is outside its limits",
+    [GI_CARD_BLOCKS] = "a live block, its map entry or the boundary is wrong",
+    [GI_FORMAT_LIMITS] = "B must be from 8 to 1,024 and N from 2 to 1,024",
+};
+
+static const char *meaning(uint32_t number) {
+    return number < sizeof meanings / sizeof *meanings ? meanings[number] : "a number without a meaning here";
+}
+
+/* Shows a refusal's number and gives the exit status for it. */
+static int refused(const char *path, uint32_t number) {
+    printf("%s: refused, number %" PRIu32 ": %s\n", path, number, meaning(number));
+    return EXIT_REFUSED;
+}
+
+/* Shows the judge's number and gives the exit status for it. */
+static int verdict(const char *path, uint32_t number) {
+    printf("%s: %" PRIu32 ", %s\n", path, number, meaning(number));
+    return number == GI_DONE ? EXIT_DONE : EXIT_REFUSED;
+}
+
+/* A decimal number that fits a word. */
+static bool parse_word(const char *text, uint32_t *word) {
+    uint64_t value = 0;
+    if (*text == '\0')
+        return false;
+    for (; *text != '\0'; text++) {
+        if (*text < '0' || *text > '9')
+            return false;
+        value = 10 * value + (uint64_t)(*text - '0');
+        if (value > UINT32_MAX)
+            return false;
+    }
+    *word = (uint32_t)value;
+    return true;
+}
+
+/* ---- format */
+
+/* Formats a card file that is there: only its configuration words are written. */
+static int format_existing(const char *path, uint32_t b, uint32_t n) {
+    struct card_file card;
+    int status = card_open(&card, path, true);
+    if (status != EXIT_DONE)
+        return status;
+    uint32_t number = gi_format(card.words, card.length, b, n);
+    status = number == GI_DONE ? card_store(&card, 0, GI_CONFIG_WORDS) : refused(path, number);
+    int closed = card_close(&card);
+    return status != EXIT_DONE ? status : closed;
+}
+
+/* Formats a card of zeros and makes a file of it. */
+static int format_new(const char *path, uint32_t b, uint32_t n) {
+    /* limits first, as the formatter has it: bad ones name no length at all */
+    uint32_t no_card = 0;
+    uint32_t number = gi_format(&no_card, 0, b, n);
+    if (number == GI_FORMAT_LIMITS)
+        return refused(path, number);
+    size_t length = gi_card_words(b, n);
+    uint32_t *words = calloc(length, sizeof *words);
+    if (words == NULL)
+        return fault(path, "no memory for %zu words", length);
+    number = gi_format(words, length, b, n);
+    int status = number == GI_DONE ? card_create(path, words, length) : refused(path, number);
+    free(words);
+    return status;
+}
+
+static int run_format(char **words) {
+    const char *path = words[0];
+    uint32_t b;
+    uint32_t n;
+    if (!parse_word(words[1], &b) || !parse_word(words[2], &n)) {
+        fprintf(stderr, "gameindex: B and N are decimal numbers of 32 bits\n");
+        return EXIT_FAULT;
+    }
+    bool there = access(path, F_OK) == 0;
+    int status = there ? format_existing(path, b, n) : format_new(path, b, n);
+    if (status == EXIT_DONE)
+        printf("%s: %s, %" PRIu32 " places of %" PRIu32 " words\n", path, there ? "formatted" : "created and formatted",
+               n, b);
+    return status;
+}
+
+/* ---- judge and show */
+
+static int run_judge(char **words) {
+    struct card_file card;
+    int status = card_open(&card, words[0], false);
+    if (status != EXIT_DONE)
+        return status;
+    status = verdict(card.path, gi_judge(card.words, card.length));
+    card_close(&card);
+    return status;
+}
+
+static void show_configuration(const uint32_t *card) {
+    static const char *const names[GI_CONFIG_WORDS] = {
+        [GI_CONFIG_FORMAT] = "format",
+        [GI_CONFIG_BLOCK_WORDS] = "B, words of a block",
+        [GI_CONFIG_PLACES] = "N, places",
+        [GI_CONFIG_OLD_START] = "old start",
+        [GI_CONFIG_OLD_LENGTH] = "old length",
+        [GI_CONFIG_NEW_LENGTH] = "new length",
+        [GI_CONFIG_BOUNDARY_TERM] = "boundary term",
+        [GI_CONFIG_BOUNDARY_POSITION] = "boundary position",
+    };
+    printf("\nconfiguration\n");
+    for (size_t i = 0; i < GI_CONFIG_WORDS; i++)
+        printf("  %-20s %10" PRIu32 "\n", names[i], card[i]);
+}
+
+/* Shows the map entries of a segment of a sound card. */
+static void show_segment(const uint32_t *card, const char *name, uint32_t start, uint32_t length) {
+    for (uint32_t i = 0; i < length; i++) {
+        uint32_t place = (start + i) % card[GI_CONFIG_PLACES];
+        const uint32_t *entry = card + GI_CONFIG_WORDS + (size_t)place * GI_MAP_ENTRY_WORDS;
+        printf("  %5" PRIu32 "  %-7s  %10" PRIu32 "  %14" PRIu32 "\n", place, name, entry[0], entry[1]);
+    }
+}
+
+/* Shows the live places of a sound card, around the circle. */
+static void show_live_places(const uint32_t *card) {
+    uint32_t old_start = card[GI_CONFIG_OLD_START];
+    uint32_t old_length = card[GI_CONFIG_OLD_LENGTH];
+    uint32_t new_length = card[GI_CONFIG_NEW_LENGTH];
+    if (old_length + new_length == 0) {
+        printf("\nlive places: none\n");
+        return;
+    }
+    printf("\nlive places\n  %5s  %-7s  %10s  %14s\n", "place", "segment", "first term", "first position");
+    show_segment(card, "old", old_start, old_length);
+    show_segment(card, "new", old_start + old_length, new_length);
+}
+
+static int run_show(char **words) {
+    struct card_file card;
+    int status = card_open(&card, words[0], false);
+    if (status != EXIT_DONE)
+        return status;
+    status = verdict(card.path, gi_judge(card.words, card.length));
+    if (card.length >= GI_CONFIG_WORDS)
+        show_configuration(card.words);
+    if (status == EXIT_DONE)
+        show_live_places(card.words);
+    card_close(&card);
+    return status;
+}
+
+/* ---- the commands */
+
+struct command {
+    const char *name;
+    const char *words;
+    int count; /* how many words it takes */
+    const char *about;
+    int (*run)(char **words);
+};
+
+static const struct command commands[] = {
+    {"format", "CARD B N", 3, "make an empty index of N places of B words", run_format},
+    {"judge", "CARD", 1, "say whether the card is sound", run_judge},
+    {"show", "CARD", 1, "show the configuration words and the live places", run_show},
+};
+
+enum { COMMANDS = sizeof commands / sizeof *commands };
+
+static void usage(FILE *out) {
+    fprintf(out, "usage: gameindex COMMAND CARD ...\n\n");
+    for (int i = 0; i < COMMANDS; i++)
+        fprintf(out, "  %-7s %-10s %s\n", commands[i].name, commands[i].words, commands[i].about);
+    fprintf(out, "\nexit status: 0 done, 1 refused (the number is shown), 2 a fault of the file or the command line\n");
+}
+
+static int run_command(int count, char **words) {
+    if (count == 1 && (strcmp(words[0], "help") == 0 || strcmp(words[0], "--help") == 0)) {
+        usage(stdout);
+        return EXIT_DONE;
+    }
+    for (int i = 0; count > 0 && i < COMMANDS; i++)
+        if (strcmp(words[0], commands[i].name) == 0 && count - 1 == commands[i].count)
+            return commands[i].run(words + 1);
+    usage(stderr);
+    return EXIT_FAULT;
+}
+
+int main(int argc, char **argv) {
+    int status = run_command(argc > 0 ? argc - 1 : 0, argv + 1);
+    if (fflush(stdout) != 0 || ferror(stdout)) {
+        fprintf(stderr, "gameindex: standard output: %s\n", strerror(errno));
+        return EXIT_FAULT;
+    }
+    return status;
+}

@@ -1,0 +1,76 @@
+/* The game index on a store card: the C functions of libgameindex.a.
+ *
+ * A card is words of 32 bits: 8 configuration words, a map of two words for
+ * each place, then the places of B words each. Lengths are counts of words.
+ * Every call takes any card, whatever its words and its length: what is wrong
+ * with it comes back as a number, and a refused call writes nothing. A pointer
+ * stands for as many words as the length beside it says, and is never NULL,
+ * not even where that length is 0.
+ */
+#ifndef GAMEINDEX_H
+#define GAMEINDEX_H
+
+#include <stddef.h>
+#include <stdint.h>
+
+#ifdef __cplusplus
+extern "C" {
+#endif
+
+/* The numbers that a call can give. */
+enum {
+    GI_DONE = 0,               /* no refusal; from the judge, a sound card */
+    GI_CARD_LENGTH = 1,        /* another length than B and N ask for */
+    GI_CARD_FORMAT = 2,        /* the first word is not a known format */
+    GI_CARD_CONFIGURATION = 3, /* configuration words outside their limits */
+    GI_CARD_BLOCKS = 4,        /* a live block, its map entry or the boundary is wrong */
+    GI_FORMAT_LIMITS = 5       /* the formatter's B or N is outside its limits */
+};
+
+/* The limits of a card. */
+enum {
+    GI_FORMAT = 1,          /* the card format of this library */
+    GI_CONFIG_WORDS = 8,    /* configuration words at the start of a card */
+    GI_MAP_ENTRY_WORDS = 2, /* words of a map entry: a term and a position */
+    GI_BLOCK_WORDS_MIN = 8, /* B, the words of a block */
+    GI_BLOCK_WORDS_MAX = 1024,
+    GI_PLACES_MIN = 2, /* N, the places for blocks */
+    GI_PLACES_MAX = 1024,
+    GI_CARD_WORDS_MAX = 1050632 /* the largest card: B and N both 1,024 */
+};
+
+/* Where each configuration word stands. */
+enum {
+    GI_CONFIG_FORMAT = 0,
+    GI_CONFIG_BLOCK_WORDS = 1,
+    GI_CONFIG_PLACES = 2,
+    GI_CONFIG_OLD_START = 3,
+    GI_CONFIG_OLD_LENGTH = 4,
+    GI_CONFIG_NEW_LENGTH = 5,
+    GI_CONFIG_BOUNDARY_TERM = 6,
+    GI_CONFIG_BOUNDARY_POSITION = 7
+};
+
+/* The words that a card with blocks of b words and n places has, for b and n
+ * within their limits. */
+static inline size_t gi_card_words(uint32_t b, uint32_t n) {
+    return (size_t)GI_CONFIG_WORDS + (size_t)GI_MAP_ENTRY_WORDS * n + (size_t)n * b;
+}
+
+/* Makes an empty index: writes the 8 configuration words and no other word.
+ * Gives 5 where b or n is outside its limits, then 1 where card_len is not
+ * gi_card_words(b, n); 0 when done. */
+uint32_t gi_format(uint32_t *card, size_t card_len, uint32_t b, uint32_t n);
+
+/* Judges a card and writes nothing. Gives the first of 1, 2, 3, 1, 3, 4 whose
+ * ground holds, in that order: shorter than 8 words (1); unknown format (2);
+ * B or N outside its limits (3); not the length that they ask for (1); segments
+ * or boundary words that cannot be (3); live blocks that are wrong (4). Gives 0
+ * for a sound card. Words of free places are never judged. */
+uint32_t gi_judge(const uint32_t *card, size_t card_len);
+
+#ifdef __cplusplus
+}
+#endif
+
+#endif
