@@ -2,6 +2,7 @@ pub mod Blocks
 pub mod Configuration
 pub mod Configured
 pub mod Crowded
+pub mod Cursor
 pub mod Ends
 pub mod Frame
 pub mod Grown
@@ -10,6 +11,7 @@ pub mod Next
 pub mod Room
 pub mod Roomy
 pub mod Settled
+pub mod Skipping
 pub mod Spent
 pub mod Steps
 pub mod Writes

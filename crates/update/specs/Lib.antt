@@ -1,3 +1,4 @@
 pub mod Pass
+pub mod Old
 pub mod Packing
 pub mod Step

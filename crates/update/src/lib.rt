@@ -1,2 +1,3 @@
 // One step of a pass.
+mod old;
 mod packing;
