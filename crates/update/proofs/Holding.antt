@@ -191,15 +191,15 @@ holds-put {ws} {p} {ks} h x r l = go (eqb (term x) (term (p .last))) refl l size
 
 -- what `put` asks
 pub holds-puts :
-    {ws : List ℕ} {p : Packing} {ks : List ℕ} → Holds ws p ks → (x : ℕ) (kept : Bool) → Proper x → length ws ≤ 1024 →
+    {ws : List ℕ} {p : Packing} {ks : List ℕ} → Holds ws p ks → (x : ℕ) (kept : Bool) → length ws ≤ 1024 → (kept ≡ true → Proper x) →
     (kept ≡ true → p .used + cost (term (p .last)) x ≤ length ws) → Puts ws p x kept
-holds-puts {ws} {p} {ks} h x kept r l n = record { few = l; room = n; counted = counted (h .entry) }
+holds-puts {ws} {p} {ks} h x kept l r n = record { few = l; room = n; counted = λ k. counted (h .entry) (r k) }
   where
-    counted : (ks ≡ []) ⊎ Entry p ks → term x ≡ term (p .last) → p .count < p .used
-    counted (inl e) t =
+    counted : (ks ≡ []) ⊎ Entry p ks → Proper x → term x ≡ term (p .last) → p .count < p .used
+    counted (inl e) q t =
         let z : 0 ≡ p .last = unfold last in rw e at (h .lastPair) in
-        absurd (omega (arith, r .termLow))
-    counted (inr e) t = omega (arith, e .counted, e .ends)
+        absurd (omega (arith, q .termLow))
+    counted (inr e) q t = omega (arith, e .counted, e .ends)
 
 -- the block that the words are
 pub holds-block : {ws : List ℕ} {p : Packing} {ks : List ℕ} → Holds ws p ks → ws ≡ blockOf (length ws) ks

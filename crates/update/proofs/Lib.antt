@@ -7,6 +7,7 @@ pub mod Ends
 pub mod Frame
 pub mod Grown
 pub mod Holding
+pub mod Merging
 pub mod Next
 pub mod Room
 pub mod Roomy

@@ -1,4 +1,5 @@
 pub mod Pass
+pub mod Due
 pub mod Old
 pub mod Packing
 pub mod Step

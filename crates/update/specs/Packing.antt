@@ -13,7 +13,7 @@ use Rattle.update.specs.declared.packing.Packing.{Packing}
 pub record Puts (ws : List ℕ) (p : Packing) (x : ℕ) (kept : Bool) : Type 0 where
   pub few : length ws ≤ 1024
   pub room : kept ≡ true → p .used + cost (term (p .last)) x ≤ length ws
-  pub counted : term x ≡ term (p .last) → p .count < p .used
+  pub counted : kept ≡ true → term x ≡ term (p .last) → p .count < p .used
 
 unfoldable pub putWords : List ℕ → Packing → ℕ → Bool → List ℕ
 putWords ws p x kept =

@@ -1,3 +1,4 @@
 // One step of a pass.
+mod due;
 mod old;
 mod packing;

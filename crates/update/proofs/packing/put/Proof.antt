@@ -15,7 +15,7 @@ same-room : (c : tie.Then2) → (c .before .before .args .packing .count < c .be
     × (c .before .before .args .packing .used + 1 ≤ length (c .before .before .args .words .now)) × (length (c .before .before .args .words .now) ≤ 1024)
 same-room c =
     let p = c .before .before .pre in
-    (p .counted (c .if2 .taken), rw (eq-eqb _ _ (c .if2 .taken)) at (p .room (not-false _ (c .before .if1 .left))), p .few)
+    (p .counted (not-false _ (c .before .if1 .left)) (c .if2 .taken), rw (eq-eqb _ _ (c .if2 .taken)) at (p .room (not-false _ (c .before .if1 .left))), p .few)
 
 other-room : (c : tie.Else2) → (c .before .before .args .packing .used + 3 ≤ length (c .before .before .args .words .now))
     × (length (c .before .before .args .words .now) ≤ 1024)
