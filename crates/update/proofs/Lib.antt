@@ -9,6 +9,7 @@ pub mod Grown
 pub mod Holding
 pub mod Merging
 pub mod Next
+pub mod Outcome
 pub mod Room
 pub mod Roomy
 pub mod Settled
@@ -16,3 +17,4 @@ pub mod Skipping
 pub mod Spent
 pub mod Steps
 pub mod Writes
+pub mod Writing

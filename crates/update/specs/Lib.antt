@@ -1,4 +1,5 @@
 pub mod Pass
+pub mod Answer
 pub mod Due
 pub mod Old
 pub mod Packing
