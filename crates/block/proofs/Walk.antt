@@ -20,6 +20,9 @@ pub record Rises (s : List ℕ) (ok : Bool) (p i : ℕ) : Type 0 where
   pub within : i ≤ length s
   pub rest : risingFrom 0 s ≡ (ok && risingFrom p (drop i s))
 
+pub rises-start : (s : List ℕ) → Rises s true 0 0
+rises-start s = record { within = zero-le; rest = refl }
+
 pub rises-turn : {s : List ℕ} {ok : Bool} {p i : ℕ} → Rises s ok p i → i < length s → Rises s (ok && ltb p (getD s i 0)) (getD s i 0) (i + 1)
 unfolding risingFrom
 rises-turn {s} {ok} {p} {i} r h =

@@ -23,10 +23,41 @@ const UNFORMED: BlockScan = BlockScan {
     last: 0,
 };
 
+// Up to this many positions are compared without a loop.
+const FEW: usize = 4;
+
+// Whether a few positions rise, as `rises` says of any number.
+fn few_rise(positions: &[u32]) -> bool
+    requires { ⌜ length (now positions) ≤ 4 ⌝ }
+    ensures { λ r. ⌜ r ≡ risingFrom 0 (now (positions .entry)) ⌝ }
+{
+    let count = positions.len();
+    if count == 0 {
+        return true;
+    }
+    let first = positions[0];
+    if count == 1 {
+        return 0 < first;
+    }
+    let second = positions[1];
+    if count == 2 {
+        return (0 < first) & (first < second);
+    }
+    let third = positions[2];
+    if count == 3 {
+        return (0 < first) & (first < second) & (second < third);
+    }
+    let fourth = positions[3];
+    (0 < first) & (first < second) & (second < third) & (third < fourth)
+}
+
 // Whether each position is greater than the one before, and the first greater than 0.
 fn rises(positions: &[u32]) -> bool
     ensures { λ r. ⌜ r ≡ risingFrom 0 (now (positions .entry)) ⌝ }
 {
+    if positions.len() <= FEW {
+        return few_rise(positions);
+    }
     let mut ok = true;
     let mut before: u32 = 0;
     let mut i = 0;
@@ -70,6 +101,7 @@ pub fn scan(words: &[u32]) -> BlockScan
     if !reads_on(words, 0) {
         return UNFORMED;
     }
+    let mut ok = true;
     let mut i: usize = 0;
     let mut term: u32 = 0;
     let mut position: u32 = 0;
@@ -77,19 +109,17 @@ pub fn scan(words: &[u32]) -> BlockScan
         let next = words[i];
         let count = words[i + 1] as usize;
         let start = i + 2;
-        let fits = (term < next) & (0 < count) & (count <= words.len() - start);
+        let fits = (0 < count) & (count <= words.len() - start);
         if !fits {
             return UNFORMED;
         }
         let end = start + count;
-        if !rises(&words[start..end]) {
-            return UNFORMED;
-        }
+        ok = ok & (term < next) & rises(&words[start..end]);
         term = next;
         position = words[end - 1];
         i = end;
     }
-    if !is_zero(&words[i..]) {
+    if !(ok & is_zero(&words[i..])) {
         return UNFORMED;
     }
     let first = Pair {

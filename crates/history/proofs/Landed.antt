@@ -17,6 +17,7 @@ use Rattle.batch.specs.Batch.{Update, updates, applied, batchNumber}
 use Rattle.batch.proofs.Meaning.{rises-applied}
 use Rattle.batch.proofs.InOrder.{proper-batch}
 use Rattle.history.specs.History.{History, toWrite, next, landed}
+use Rattle.history.specs.Claims.{Moved, MovedAll}
 
 -- the pairs that the pass would leave if it finished now: the batch applied above the mark
 unfoldable pub target : List ℕ → History → List ℕ
@@ -100,12 +101,6 @@ rising-landed b h z r = go (goesOn (h .size) (toWrite b h)) refl
         rw (landed-on b h s z g) (rising-joined 0 (reach b h) (target b h) (h .pairs) (omega arith) (rising-target b h r) s)
     go false g = rw (landed-end b h s g) (rising-target b h r)
 
--- what the batch does to the pairs above m up to k, and to no other pair
-pub record Moved (us : List Update) (m k : ℕ) (before after : List ℕ) : Type 0 where
-  pub below : atMost m after ≡ atMost m before
-  pub past : above m (atMost k after) ≡ above m (atMost k (applied us before))
-  pub beyond : above k after ≡ above k before
-
 -- step by step: a configuration write that goes on applies the batch to the pairs above the old mark up to the new one
 pub landed-moves : (b : List ℕ) (h : History) → 3 ≤ h .size → risingFrom 0 (h .pairs) ≡ true → goesOn (h .size) (toWrite b h) ≡ true
     → Moved (updates b) (h .mark) (landed b h .mark) (h .pairs) (landed b h .pairs)
@@ -127,12 +122,10 @@ landed-moves b h z r g =
 
 -- and one that finishes, to all pairs above the old mark
 pub landed-finishes : (b : List ℕ) (h : History) → risingFrom 0 (h .pairs) ≡ true → goesOn (h .size) (toWrite b h) ≡ false
-    → (landed b h .mark ≡ 0)
-    × (atMost (h .mark) (landed b h .pairs) ≡ atMost (h .mark) (h .pairs))
-    × (above (h .mark) (landed b h .pairs) ≡ above (h .mark) (applied (updates b) (h .pairs)))
+    → MovedAll (updates b) (h .mark) (h .pairs) (landed b h .pairs)
 landed-finishes b h r g =
     rw (landed-end b h (rises-from (h .pairs) 0 r) g)
-    (refl, atMost-target b h, above-target b h)
+    (record { below = atMost-target b h; past = above-target b h })
 
 -- a configuration write leaves pairs, and a pair for a mark, or none
 pub proper-toWrite : (b : List ℕ) (h : History) → Words b → batchNumber b ≡ 0 → Each Proper (h .pairs) → Each Proper (toWrite b h)

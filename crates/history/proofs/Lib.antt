@@ -10,3 +10,5 @@ pub mod Landed
 pub mod PassEnds
 pub mod Removals
 pub mod Sharp
+pub mod SmallCards
+pub mod StepByStep

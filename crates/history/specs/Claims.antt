@@ -4,7 +4,10 @@ use mathlib.Core.Path.{_≡_}
 use mathlib.Core.Bool.{Bool, true, false, cond, _&&_, _||_, not}
 use mathlib.Core.List.{List, [], _∷_, _++_}
 use lib.Dec.{eqb, leb, ltb}
+use lib.ListN.{drop}
 use Rattle.pair.specs.Rank.{rank, Words}
+use Rattle.pair.specs.Rising.{above, atMost}
+use Rattle.block.specs.Block.{fitting}
 use Rattle.card.specs.Layout.{placeCount, oldLength, newLength, blockSize, boundary, oldPlaces, newPlaces, live, formatNumber}
 use Rattle.card.specs.Sound.{judged}
 use Rattle.batch.specs.Batch.{Update, updates, anyUpdate, applied, batchNumber}
@@ -77,3 +80,27 @@ BlocksReadBound =
     (c : List ℕ) (t a z : ℕ) → questionNumber c t a z ≡ 0 →
     blocksRead c t a z
     ≤ holders c 0 (rank t a) (rank t z) (newPlaces c) + holders c (boundary c) (rank t a) (rank t z) (oldPlaces c) + 2
+
+-- from one set to another the batch has been applied to the pairs above m up to k, and to no other pair
+pub record Moved (us : List Update) (m k : ℕ) (before after : List ℕ) : Type 0 where
+  pub below : atMost m after ≡ atMost m before
+  pub past : above m (atMost k after) ≡ above m (atMost k (applied us before))
+  pub beyond : above k after ≡ above k before
+
+-- the same with all pairs above m
+pub record MovedAll (us : List Update) (m : ℕ) (before after : List ℕ) : Type 0 where
+  pub below : atMost m after ≡ atMost m before
+  pub past : above m after ≡ above m (applied us before)
+
+-- each configuration write applies the batch to the pairs it moves past and to no other pair: those above the boundary before it, up to the boundary it sets, or all of them when it finishes
+unfoldable pub MovesPast : Type 0
+MovesPast =
+    (c b : List ℕ) → Words c → Words b → judged c ≡ 0 → step c b .write ≡ 3 →
+    (step c b .finished ≡ false → Moved (updates b) (boundary c) (boundary (step c b .card)) (live c) (live (step c b .card)))
+    × (step c b .finished ≡ true → MovedAll (updates b) (boundary c) (live c) (live (step c b .card)))
+
+-- what remains after a configuration write that does not finish is what remained beyond the due block
+unfoldable pub RemainsNext : Type 0
+RemainsNext =
+    (c b : List ℕ) → Words c → Words b → step c b .write ≡ 3 → step c b .finished ≡ false →
+    remains (step c b .card) b ≡ drop (fitting (blockSize c) 0 (remains c b)) (remains c b)

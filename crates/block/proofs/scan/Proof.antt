@@ -2,23 +2,23 @@
 use Prim.Native.Nat.{ℕ, _+_, _-_, _<_, _≤_}
 use native.Mathlib.Omega.{arith}
 use mathlib.Core.Path.{_≡_, sym, _∙_}
-use mathlib.Core.Bool.{true, false}
+use mathlib.Core.Bool.{true, false, _&&_}
 use mathlib.Core.List.{List}
 use borrow.Author.Tests.{not-true, not-false}
 use lib.ListN.{drop, getD}
 use Rattle.block.specs.Scan.{readsOn}
 use Rattle.block.proofs.Walk.{unformed-start}
-use Rattle.block.proofs.Scanning.{Reading, reading-start, reading-turn, reading-misfit, reading-fall, reading-tail, reading-end, unformed, entry-room, entry-fits}
+use Rattle.block.proofs.Scanning.{Reading, reading-start, reading-turn, reading-misfit, reading-tail, reading-end, unformed, entry-room, entry-fits}
 use lib.ListN.{length}
 use borrow.Author.Needs.{needs}
 use Rattle.block.proofs.scan.Statement.{statement}
 use Rattle.block.proofs.scan.Tie as tie
 
 abbrev Inv-loop : tie.InvT-loop
-Inv-loop words i₀ term₀ position₀ i term position = Reading words i term position
+Inv-loop words ok₀ i₀ term₀ position₀ ok i term position = Reading words ok i term position
 
 abbrev μ-loop : tie.MeasureT-loop
-μ-loop words i₀ term₀ position₀ i term position = length words - i
+μ-loop words ok₀ i₀ term₀ position₀ ok i term position = length words - i
 
 -- in a turn: the words, the place of the entry, the invariant, and that an entry stands there
 abbrev W : tie.Then2 Inv-loop μ-loop → List ℕ
@@ -27,7 +27,7 @@ W c = c .before .before .before .before .before .before .args .words .now
 abbrev I : tie.Then2 Inv-loop μ-loop → ℕ
 I c = c .before .before .loop .i
 
-inv : (c : tie.Then2 Inv-loop μ-loop) → Reading (W c) (I c) (c .before .before .loop .term) (c .before .before .loop .position)
+inv : (c : tie.Then2 Inv-loop μ-loop) → Reading (W c) (c .before .before .loop .ok) (I c) (c .before .before .loop .term) (c .before .before .loop .position)
 inv c = c .before .before .loop .inv
 
 on : (c : tie.Then2 Inv-loop μ-loop) → readsOn (drop (I c) (W c)) ≡ true
@@ -40,7 +40,7 @@ room c = entry-room (W c) (I c) (on c)
 fit : (c : tie.Else3 Inv-loop μ-loop) → (0 < getD (W (c .before .before .before)) (I (c .before .before .before) + 1) 0) × (getD (W (c .before .before .before)) (I (c .before .before .before) + 1) 0 ≤ length (W (c .before .before .before)) - (I (c .before .before .before) + 2))
 fit c =
     let t = c .before .before .before in
-    entry-fits (W t) (I t) (t .before .before .loop .term) (not-false _ (c .if3 .left))
+    entry-fits (W t) (I t) (not-false _ (c .if3 .left))
 
 -- after the loop: no entry stands at i; and one stood at 0
 off : (c : tie.Else2 Inv-loop μ-loop) → readsOn (drop (c .before .before .loop .i) (c .before .before .before .before .before .before .args .words .now)) ≡ false
@@ -109,28 +109,23 @@ part-rises-end c = omega (arith, fit c, room (c .before .before .before))
 rises-requires : tie.Need-rises-requires Inv-loop μ-loop
 rises-requires c κs = search needs
 
-returns-3 : tie.Need-returns-3 Inv-loop μ-loop
-returns-3 c =
-    let t = c .before .before .before .before .before .before in
-    unformed _ (reading-fall (inv t) (on t) (sym (c .before .rises .ensures) ∙ not-true _ (c .if4 .taken)))
-
 sub-position : tie.Need-sub-position Inv-loop μ-loop
-sub-position c = omega arith
+sub-position c = search needs
 
 mul-position : tie.Need-mul-position Inv-loop μ-loop
-mul-position c = omega (arith, fit (c .before .before .before), room (c .before .before .before .before .before .before))
+mul-position c = let e = c .before .before in omega (arith, fit e, room (e .before .before .before))
 
 shared-slice-read-position : tie.Need-shared-slice-read-position Inv-loop μ-loop
-shared-slice-read-position c = omega (arith, fit (c .before .before .before .before), room (c .before .before .before .before .before .before .before))
+shared-slice-read-position c = let e = c .before .before .before in omega (arith, fit e, room (e .before .before .before))
 
 loop-less : tie.Need-loop-less Inv-loop μ-loop
-loop-less c = omega (arith, fit (c .before .before .before .before), room (c .before .before .before .before .before .before .before))
+loop-less c = let e = c .before .before .before in omega (arith, fit e, room (e .before .before .before))
 
 loop-again : tie.Need-loop-again Inv-loop μ-loop
 loop-again c =
-    let e = c .before .before .before .before in
+    let e = c .before .before .before in
     let t = e .before .before .before in
-    reading-turn (inv t) (on t) (not-false _ (e .if3 .left)) (sym (c .before .before .rises .ensures) ∙ not-false _ (c .before .if4 .left))
+    reading-turn (inv t) (on t) (not-false _ (e .if3 .left)) (c .before .rises .result) (c .before .rises .ensures)
 
 mul-is-zero : tie.Need-mul-is-zero Inv-loop μ-loop
 mul-is-zero c = search needs
@@ -147,14 +142,17 @@ part-is-zero-end c = search needs
 is-zero-requires : tie.Need-is-zero-requires Inv-loop μ-loop
 is-zero-requires c κs = search needs
 
-returns-4 : tie.Need-returns-4 Inv-loop μ-loop
-returns-4 c = unformed _ (reading-tail (c .before .before .before .before .before .loop .inv) (off (c .before .before .before)) (sym (c .before .is-zero .ensures) ∙ not-true _ (c .if5 .taken)))
+returns-3 : tie.Need-returns-3 Inv-loop μ-loop
+returns-3 c =
+    let z = c .before .before .before in
+    let t : (z .before .before .loop .ok && c .before .is-zero .result) ≡ false = not-true _ (c .if4 .taken) in
+    unformed _ (reading-tail (z .before .before .loop .inv) (off z) (rw (c .before .is-zero .ensures) at t))
 
-shared-slice-read-t34 : tie.Need-shared-slice-read-t34 Inv-loop μ-loop
-shared-slice-read-t34 c = omega (arith, first-room (c .before .before .before .before .before .before .before))
+shared-slice-read-t35 : tie.Need-shared-slice-read-t35 Inv-loop μ-loop
+shared-slice-read-t35 c = omega (arith, first-room (c .before .before .before .before .before .before .before))
 
-shared-slice-read-t36 : tie.Need-shared-slice-read-t36 Inv-loop μ-loop
-shared-slice-read-t36 c = omega (arith, first-room (c .before .before .before .before .before .before .before .before))
+shared-slice-read-t37 : tie.Need-shared-slice-read-t37 Inv-loop μ-loop
+shared-slice-read-t37 c = omega (arith, first-room (c .before .before .before .before .before .before .before .before))
 
 rank-requires : tie.Need-rank-requires Inv-loop μ-loop
 rank-requires c κs = search needs
@@ -162,12 +160,13 @@ rank-requires c κs = search needs
 rank-requires-2 : tie.Need-rank-requires-2 Inv-loop μ-loop
 rank-requires-2 c κs = search needs
 
-returns-5 : tie.Need-returns-5 Inv-loop μ-loop
-returns-5 c =
+returns-4 : tie.Need-returns-4 Inv-loop μ-loop
+returns-4 c =
     let e = c .before .before .before .before in
     let z = e .before .before .before in
+    let t : (z .before .before .loop .ok && e .before .is-zero .result) ≡ true = not-false _ (e .if4 .left) in
     rw (c .before .rank .ensures, c .rank2 .ensures)
-    (reading-end (z .before .before .loop .inv) (first-on (z .before .before .before)) (off z) (sym (e .before .is-zero .ensures) ∙ not-false _ (e .if5 .left)))
+    (reading-end (z .before .before .loop .inv) (first-on (z .before .before .before)) (off z) (rw (e .before .is-zero .ensures) at t))
 
 pub scan-spec : {M : Type 1} → statement M
 scan-spec =
@@ -194,7 +193,6 @@ scan-spec =
     part-rises-start
     part-rises-end
     rises-requires
-    returns-3
     sub-position
     mul-position
     shared-slice-read-position
@@ -205,9 +203,9 @@ scan-spec =
     part-is-zero-start
     part-is-zero-end
     is-zero-requires
-    returns-4
-    shared-slice-read-t34
-    shared-slice-read-t36
+    returns-3
+    shared-slice-read-t35
+    shared-slice-read-t37
     rank-requires
     rank-requires-2
-    returns-5)
+    returns-4)

@@ -1,0 +1,205 @@
+// Makers of sound cards: by running the second program's steps, or laid out block by block.
+
+use crate::batches::{self, Mixture, Universe};
+use crate::random::Random;
+use crate::second::batch::MOST_RECORDS;
+use crate::second::block;
+use crate::second::layout::MAP_ENTRY_WORDS;
+use crate::second::{self, Configuration, Pair, HIGHEST};
+
+/// The right length of a card, for B and N within their limits.
+pub fn right_length(b: u32, n: u32) -> usize {
+    second::card_words(b, n) as usize
+}
+
+/// Words of the right length with leftovers of one of three kinds.
+pub fn memory(random: &mut Random, b: u32, n: u32) -> Vec<u32> {
+    let length = right_length(b, n);
+    match random.below(3) {
+        0 => vec![0; length],
+        1 => random.words(length),
+        _ => (0..length).map(|_| random.below(6) as u32).collect(),
+    }
+}
+
+/// A card just formatted, its other words leftovers.
+pub fn fresh(random: &mut Random, b: u32, n: u32) -> Vec<u32> {
+    let mut card = memory(random, b, n);
+    assert_eq!(second::format(&mut card, b, n), 0);
+    card
+}
+
+/// Runs steps of one batch until the pass finishes, a refusal, or `most` steps. Gives the number.
+pub fn run(card: &mut [u32], batch: &[u32], most: usize) -> u32 {
+    for _ in 0..most {
+        let answer = second::step(card, batch);
+        if answer.number != 0 || answer.finished {
+            return answer.number;
+        }
+    }
+    0
+}
+
+/// A card made by steps: a few whole passes and then part of one.
+pub fn stepped(random: &mut Random, b: u32, n: u32) -> Vec<u32> {
+    let mut card = fresh(random, b, n);
+    let room = b as usize * n as usize;
+    let universe = if room > 600 {
+        Universe::wide(room)
+    } else {
+        Universe::random(random)
+    };
+    let most = (room / 2).clamp(4, MOST_RECORDS);
+    for _ in 0..1 + random.below(4) {
+        let mixture = Mixture::random(random);
+        let batch = batches::good(random, &universe, mixture, most);
+        run(&mut card, &batch, 6 * n as usize);
+    }
+    let mixture = Mixture::random(random);
+    let batch = batches::good(random, &universe, mixture, most);
+    let steps = random.below(3 * n as usize + 1);
+    run(&mut card, &batch, steps);
+    card
+}
+
+/// Lays out a card from the pairs of its blocks, leftovers from `memory` elsewhere.
+pub fn laid_out(
+    mut memory: Vec<u32>,
+    b: u32,
+    n: u32,
+    old_start: u32,
+    old: &[Vec<Pair>],
+    new: &[Vec<Pair>],
+) -> Vec<u32> {
+    assert_eq!(memory.len(), right_length(b, n));
+    let boundary = new.last().map_or((0, 0), |block| block[block.len() - 1]);
+    let configuration = Configuration {
+        format: 1,
+        b,
+        n,
+        old_start,
+        old_length: old.len() as u32,
+        new_length: new.len() as u32,
+        boundary_term: boundary.0,
+        boundary_position: boundary.1,
+    };
+    memory[..8].copy_from_slice(&configuration.words());
+    let places = configuration
+        .old_places()
+        .into_iter()
+        .chain(configuration.new_places());
+    for (place, pairs) in places.zip(old.iter().chain(new)) {
+        put_block(&mut memory, &configuration, place, pairs);
+    }
+    memory
+}
+
+/// Puts a block and its map entry in a place.
+pub fn put_block(card: &mut [u32], configuration: &Configuration, place: usize, pairs: &[Pair]) {
+    let words = block::block_words(pairs, configuration.b as usize);
+    put_words(card, configuration, place, &words);
+}
+
+/// Puts the words of a block in a place, and in its map entry what stands where a first pair does.
+pub fn put_words(card: &mut [u32], configuration: &Configuration, place: usize, words: &[u32]) {
+    card[configuration.block_range(place)].copy_from_slice(words);
+    let first: [u32; MAP_ENTRY_WORDS] = [words[0], words[2]];
+    card[configuration.map_range(place)].copy_from_slice(&first);
+}
+
+/// A sound card that steps need not reach: its blocks are seldom filled as far as they could be.
+pub fn loose(random: &mut Random, b: u32, n: u32) -> Vec<u32> {
+    let live = if random.chance(1, 2) {
+        n as usize - 1
+    } else {
+        random.below(n as usize)
+    };
+    let new_wanted = if live == 0 || random.chance(1, 4) {
+        0
+    } else {
+        1 + random.below(live)
+    };
+    let close = random.chance(1, 2);
+    let mut cursor = match random.below(3) {
+        0 => (0, 0),
+        1 => (u32::MAX - 2, u32::MAX - 40),
+        _ => (random.word(), random.word()),
+    };
+    let new = segment(random, b, new_wanted, &mut cursor, close);
+    let boundary = new.last().map(|block| block[block.len() - 1]);
+    let mut old = Vec::new();
+    for _ in 0..4 {
+        let mut start = cursor;
+        if let Some((term, position)) = boundary {
+            if random.chance(1, 2) {
+                start = (term, position.saturating_sub(1 + random.below(6) as u32));
+            } else if random.chance(1, 2) {
+                start = (term.saturating_sub(1), random.below(5) as u32);
+            }
+        }
+        old = segment(random, b, live - new_wanted, &mut start, close);
+        let first_last = old.first().map(|block| block[block.len() - 1]);
+        if first_last.is_none() || first_last > boundary {
+            break;
+        }
+        old.clear();
+    }
+    let old_start = random.below(n as usize) as u32;
+    let card = laid_out(memory(random, b, n), b, n, old_start, &old, &new);
+    assert_eq!(second::judge(&card), 0);
+    card
+}
+
+/// At most `count` blocks of pairs that rise after the cursor, which moves on to the last.
+pub fn segment(
+    random: &mut Random,
+    b: u32,
+    count: usize,
+    cursor: &mut Pair,
+    close: bool,
+) -> Vec<Vec<Pair>> {
+    let mut blocks = Vec::new();
+    for _ in 0..count {
+        let full = random.chance(1, 3);
+        let wanted = if full {
+            b as usize
+        } else {
+            1 + random.below(b as usize - 2)
+        };
+        let mut pairs: Vec<Pair> = Vec::new();
+        let mut used = 0;
+        while pairs.len() < wanted {
+            let Some(next) = next_pair(random, *cursor, close) else {
+                break;
+            };
+            used += block::cost(pairs.last().copied(), next);
+            if used > b as usize {
+                break;
+            }
+            pairs.push(next);
+            *cursor = next;
+        }
+        if pairs.is_empty() {
+            break;
+        }
+        blocks.push(pairs);
+    }
+    blocks
+}
+
+/// A pair above another, close by or further on; none above the highest.
+fn next_pair(random: &mut Random, (term, position): Pair, close: bool) -> Option<Pair> {
+    if (term, position) == HIGHEST {
+        return None;
+    }
+    let stride = if close { 1 } else { 1000 };
+    let same_term = term != 0 && position != u32::MAX && random.chance(2, 3);
+    if same_term || term == u32::MAX {
+        let next = position.saturating_add(1 + random.below(stride) as u32);
+        Some((term.max(1), next))
+    } else {
+        let next = term.saturating_add(1 + random.below(stride) as u32);
+        let position = random.pick(&[1, 2, 3, 100, u32::MAX - 1, u32::MAX]);
+        Some((next, position))
+    }
+}

@@ -1,0 +1,9 @@
+// The second program, the library under test, and what the tests share.
+
+pub mod batches;
+pub mod cards;
+pub mod compare;
+pub mod ffi;
+pub mod lists;
+pub mod random;
+pub mod second;

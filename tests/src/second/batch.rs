@@ -1,0 +1,79 @@
+// The batch: its records, the judgement of its form and order, its meaning for a set of pairs.
+
+use std::collections::BTreeSet;
+
+use super::layout::Pair;
+use super::number;
+
+pub const RECORD_WORDS: usize = 4;
+pub const MOST_RECORDS: usize = 4096;
+pub const ADD: u32 = 1;
+pub const REMOVE: u32 = 2;
+
+#[derive(Clone, Copy, Debug, PartialEq, Eq)]
+pub struct Record {
+    pub kind: u32,
+    pub term: u32,
+    pub from: u32,
+    pub to: u32,
+}
+
+impl Record {
+    pub fn words(&self) -> [u32; RECORD_WORDS] {
+        [self.kind, self.term, self.from, self.to]
+    }
+
+    fn is_well_formed(&self) -> bool {
+        let kind_known = self.kind == ADD || self.kind == REMOVE;
+        let no_zero = self.term != 0 && self.from != 0 && self.to != 0;
+        let range_rises = self.from <= self.to;
+        let one_pair = self.kind != ADD || self.from == self.to;
+        kind_known && no_zero && range_rises && one_pair
+    }
+}
+
+/// The whole records of a batch.
+pub fn records(batch: &[u32]) -> Vec<Record> {
+    batch
+        .chunks_exact(RECORD_WORDS)
+        .map(|words| Record {
+            kind: words[0],
+            term: words[1],
+            from: words[2],
+            to: words[3],
+        })
+        .collect()
+}
+
+/// 6, 7 or 0.
+pub fn judge_batch(batch: &[u32]) -> u32 {
+    if batch.len() % RECORD_WORDS != 0 || batch.len() / RECORD_WORDS > MOST_RECORDS {
+        return number::BATCH_FORM;
+    }
+    let records = records(batch);
+    if !records.iter().all(Record::is_well_formed) {
+        return number::BATCH_FORM;
+    }
+    let falls = |two: &[Record]| (two[1].term, two[1].from) < (two[0].term, two[0].from);
+    if records.windows(2).any(falls) {
+        return number::BATCH_ORDER;
+    }
+    number::DONE
+}
+
+/// The set less everything removed, plus everything added, for a batch judged 0.
+pub fn applied(batch: &[u32], set: &BTreeSet<Pair>) -> BTreeSet<Pair> {
+    let records = records(batch);
+    let mut result = set.clone();
+    for record in records.iter().filter(|record| record.kind == REMOVE) {
+        let stretch = (record.term, record.from)..=(record.term, record.to);
+        let removed: Vec<Pair> = result.range(stretch).copied().collect();
+        for pair in removed {
+            result.remove(&pair);
+        }
+    }
+    for record in records.iter().filter(|record| record.kind == ADD) {
+        result.insert((record.term, record.from));
+    }
+    result
+}

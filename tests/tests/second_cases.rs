@@ -1,0 +1,628 @@
+// The second program by itself: the paper's cases P1 to P8, a table of judgements, and lists of
+// calls against the history.
+
+use std::collections::BTreeSet;
+
+use gameindex_tests::batches::{self, addition, removal, Mixture, Universe};
+use gameindex_tests::cards;
+use gameindex_tests::lists::{self, Figures, List, Second};
+use gameindex_tests::random::Random;
+use gameindex_tests::second::{self, block, Configuration, Pair, StepAnswer, HIGHEST, LOWEST};
+
+fn done(write: u32, freed: u32, finished: bool) -> StepAnswer {
+    StepAnswer {
+        number: 0,
+        write,
+        freed,
+        finished,
+    }
+}
+
+fn refused(number: u32) -> StepAnswer {
+    StepAnswer {
+        number,
+        write: 0,
+        freed: 0,
+        finished: false,
+    }
+}
+
+fn zeros(n: u32) -> Vec<u32> {
+    let mut card = vec![0; cards::right_length(8, n)];
+    assert_eq!(second::format(&mut card, 8, n), 0);
+    assert_eq!(card[..8], [1, 8, n, 0, 0, 0, 0, 0]);
+    card
+}
+
+fn p1_batch() -> Vec<u32> {
+    batches::words(vec![addition(5, 2), addition(5, 9), addition(7, 4)])
+}
+
+/// The card after P1, its three steps checked on the way.
+fn p1(n: u32) -> Vec<u32> {
+    let mut card = zeros(n);
+    let batch = p1_batch();
+    assert_eq!(batch, [1, 5, 2, 2, 1, 5, 9, 9, 1, 7, 4, 4]);
+    assert_eq!(second::blocks_filled(&card, &batch), 1);
+    assert_eq!(second::step(&mut card, &batch), done(1, 0, false));
+    assert_eq!(block_at(&card, 0), [5, 2, 2, 9, 7, 1, 4, 0]);
+    assert_eq!(card[..8], [1, 8, n, 0, 0, 0, 0, 0]);
+    assert_eq!(map_at(&card, 0), (0, 0));
+    assert_eq!(second::step(&mut card, &batch), done(2, 0, false));
+    assert_eq!(map_at(&card, 0), (5, 2));
+    assert_eq!(card[..8], [1, 8, n, 0, 0, 0, 0, 0]);
+    assert_eq!(second::step(&mut card, &batch), done(3, 0, true));
+    assert_eq!(card[..8], [1, 8, n, 0, 1, 0, 0, 0]);
+    assert_eq!(live(&card), [(5, 2), (5, 9), (7, 4)]);
+    card
+}
+
+fn block_at(card: &[u32], place: usize) -> Vec<u32> {
+    Configuration::read(card).block(card, place).to_vec()
+}
+
+fn map_at(card: &[u32], place: usize) -> Pair {
+    Configuration::read(card).map_pair(card, place)
+}
+
+fn live(card: &[u32]) -> Vec<Pair> {
+    assert_eq!(second::judge(card), 0);
+    second::live_pairs(card).into_iter().collect()
+}
+
+/// The positions, and the count of blocks read.
+fn found(card: &[u32], term: u32, from: u32, to: u32) -> (Vec<u32>, u32) {
+    let mut answer = vec![77; 4];
+    let reply = second::lookup(card, term, from, to, &mut answer);
+    assert_eq!(reply.number, 0);
+    assert!(answer[reply.count as usize..]
+        .iter()
+        .all(|&word| word == 77));
+    answer.truncate(reply.count as usize);
+    (answer, reply.blocks)
+}
+
+#[test]
+fn bounds_of_pairs() {
+    assert_eq!(LOWEST, (1, 1));
+    assert_eq!(HIGHEST, (4_294_967_295, 4_294_967_295));
+    assert_eq!(second::card_words(1024, 1024), 1_050_632);
+}
+
+#[test]
+fn p1_three_steps_on_zeros() {
+    let card = p1(4);
+    assert_eq!(card.len(), 48);
+    // On leftovers that are right already the block and the map entry are passed over.
+    let mut again = card.clone();
+    assert_eq!(second::format(&mut again, 8, 4), 0);
+    assert_eq!(second::step(&mut again, &p1_batch()), done(3, 0, true));
+    assert_eq!(again, card);
+    again[8] = 1;
+    assert_eq!(second::format(&mut again, 8, 4), 0);
+    assert_eq!(second::step(&mut again, &p1_batch()), done(2, 0, false));
+    assert_eq!(second::step(&mut again, &p1_batch()), done(3, 0, true));
+    assert_eq!(again, card);
+}
+
+#[test]
+fn p2_exactly_full() {
+    let mut card = p1(4);
+    let batch = batches::words(vec![addition(7, 11)]);
+    assert_eq!(second::step(&mut card, &batch), done(1, 0, false));
+    assert_eq!(second::step(&mut card, &batch), done(2, 0, false));
+    assert_eq!(second::step(&mut card, &batch), done(3, 1, true));
+    assert_eq!(block_at(&card, 1), [5, 2, 2, 9, 7, 2, 4, 11]);
+    assert_eq!(map_at(&card, 1), (5, 2));
+    assert_eq!(card[..8], [1, 8, 4, 1, 1, 0, 0, 0]);
+    assert_eq!(live(&card), [(5, 2), (5, 9), (7, 4), (7, 11)]);
+}
+
+#[test]
+fn p3_two_blocks() {
+    let mut card = p1(4);
+    let batch = batches::words(vec![addition(8, 1)]);
+    assert_eq!(second::blocks_filled(&card, &batch), 2);
+    assert_eq!(second::step_limit(2), 6);
+    assert_eq!(second::step(&mut card, &batch), done(1, 0, false));
+    assert_eq!(block_at(&card, 1), [5, 2, 2, 9, 7, 1, 4, 0]);
+    assert_eq!(second::step(&mut card, &batch), done(2, 0, false));
+    assert_eq!(map_at(&card, 1), (5, 2));
+    assert_eq!(second::step(&mut card, &batch), done(3, 1, false));
+    assert_eq!(card[..8], [1, 8, 4, 1, 0, 1, 7, 4]);
+    assert_eq!(live(&card), [(5, 2), (5, 9), (7, 4)]);
+    assert_eq!(second::step(&mut card, &batch), done(1, 0, false));
+    assert_eq!(block_at(&card, 2), [8, 1, 1, 0, 0, 0, 0, 0]);
+    assert_eq!(second::step(&mut card, &batch), done(2, 0, false));
+    assert_eq!(map_at(&card, 2), (8, 1));
+    assert_eq!(second::step(&mut card, &batch), done(3, 0, true));
+    assert_eq!(card[..8], [1, 8, 4, 1, 2, 0, 0, 0]);
+    assert_eq!(live(&card), [(5, 2), (5, 9), (7, 4), (8, 1)]);
+}
+
+#[test]
+fn p4_stops_with_8() {
+    let mut card = p1(2);
+    let batch = batches::words(vec![addition(8, 1)]);
+    assert_eq!(second::step(&mut card, &batch), done(1, 0, false));
+    assert_eq!(second::step(&mut card, &batch), done(2, 0, false));
+    assert_eq!(second::step(&mut card, &batch), done(3, 1, false));
+    assert_eq!(card[..8], [1, 8, 2, 1, 0, 1, 7, 4]);
+    let stopped = card.clone();
+    assert_eq!(second::step(&mut card, &batch), refused(8));
+    assert_eq!(second::due_write(&card, &batch), None);
+    assert_eq!(card, stopped);
+    assert_eq!(second::step(&mut card, &[]), done(3, 0, true));
+    assert_eq!(card[..8], [1, 8, 2, 1, 1, 0, 0, 0]);
+    assert_eq!(live(&card), [(5, 2), (5, 9), (7, 4)]);
+}
+
+#[test]
+fn p5_an_addition_wins() {
+    for batch in [
+        vec![removal(5, 2, 9), addition(5, 9)],
+        vec![removal(5, 2, 9), addition(5, 9), addition(5, 9)],
+    ] {
+        let mut card = p1(4);
+        let batch = batches::words(batch);
+        assert_eq!(cards::run(&mut card, &batch, 3), 0);
+        assert_eq!(card[..8], [1, 8, 4, 1, 1, 0, 0, 0]);
+        assert_eq!(live(&card), [(5, 9), (7, 4)]);
+        assert_eq!(block_at(&card, 1), [5, 1, 9, 7, 1, 4, 0, 0]);
+        // The whole batch once more changes nothing in the index.
+        assert_eq!(cards::run(&mut card, &batch, 3), 0);
+        assert_eq!(live(&card), [(5, 9), (7, 4)]);
+    }
+}
+
+#[test]
+fn p6_nothing_remains() {
+    let mut card = p1(4);
+    let batch = batches::words(vec![removal(5, 1, u32::MAX), removal(7, 1, u32::MAX)]);
+    assert_eq!(second::blocks_filled(&card, &batch), 0);
+    assert_eq!(second::step_limit(0), 1);
+    assert_eq!(second::due_write(&card, &batch), Some((3, 0..8)));
+    assert_eq!(second::step(&mut card, &batch), done(3, 1, true));
+    assert_eq!(card[..8], [1, 8, 4, 1, 0, 0, 0, 0]);
+    assert_eq!(live(&card), []);
+}
+
+#[test]
+fn p7_lookups_that_read_one_block() {
+    let card = p1(4);
+    assert_eq!(found(&card, 5, 1, 9), (vec![2, 9], 1));
+    assert_eq!(found(&card, 5, 3, 8), (vec![], 1));
+    let (number, run) = second::run_view(&card, 5, 1, 9);
+    assert_eq!((number, &card[run]), (0, &[2, 9][..]));
+    assert_eq!(second::run_view(&card, 5, 3, 8), (0, 0..0));
+    let mut small = [77];
+    let reply = second::lookup(&card, 5, 1, 9, &mut small);
+    assert_eq!((reply.number, reply.count, reply.blocks), (10, 0, 0));
+    assert_eq!(small, [77]);
+}
+
+#[test]
+fn p8_lookups_that_find_none() {
+    let card = p1(4);
+    assert_eq!(found(&card, 4, 1, 9), (vec![], 0));
+    assert_eq!(found(&card, 6, 1, 9), (vec![], 1));
+}
+
+#[test]
+fn numbers_of_the_formatter() {
+    let mut card = vec![9; 48];
+    for (b, n) in [(7, 4), (1025, 4), (8, 1), (8, 1025), (0, 0), (u32::MAX, 4)] {
+        assert_eq!(second::format(&mut card, b, n), 5);
+    }
+    assert_eq!(second::format(&mut card, 8, 3), 1);
+    assert_eq!(second::format(&mut card[..47], 8, 4), 1);
+    assert_eq!(second::format(&mut [], 8, 4), 1);
+    assert_eq!(second::format(&mut [], 7, 4), 5);
+    assert_eq!(card, vec![9; 48]);
+}
+
+#[test]
+fn numbers_of_the_batch() {
+    let number = second::judge_batch;
+    assert_eq!(number(&[]), 0);
+    assert_eq!(number(&[1, 5, 2, 2]), 0);
+    assert_eq!(number(&[2, 5, 2, 9, 1, 5, 2, 2, 2, 5, 2, 3]), 0);
+    for length in [1, 2, 3, 5, 6, 7] {
+        assert_eq!(number(&[1, 1, 1, 1, 1, 1, 1, 1][..length]), 6);
+    }
+    assert_eq!(number(&[1, 5, 2, 2].repeat(4096)), 0);
+    assert_eq!(number(&[1, 5, 2, 2].repeat(4097)), 6);
+    for bad in [
+        [0, 5, 2, 2],
+        [3, 5, 2, 2],
+        [1, 0, 2, 2],
+        [1, 5, 0, 0],
+        [2, 5, 0, 2],
+        [2, 5, 2, 0],
+        [2, 5, 3, 2],
+        [1, 5, 3, 2],
+        [1, 5, 2, 3],
+    ] {
+        assert_eq!(number(&bad), 6);
+        // 6 comes before 7, wherever it stands.
+        let after_fall = [&[1, 9, 9, 9, 1, 1, 1, 1][..], &bad].concat();
+        assert_eq!(number(&after_fall), 6);
+    }
+    assert_eq!(number(&[1, 5, 2, 2, 1, 4, 9, 9]), 7);
+    assert_eq!(number(&[1, 5, 2, 2, 2, 5, 1, 9]), 7);
+}
+
+/// A card of B 8 and N 4 with two old and one new block around the circle, as words to damage.
+fn judged_example() -> Vec<u32> {
+    let card = cards::laid_out(
+        vec![6; 48],
+        8,
+        4,
+        3,
+        &[vec![(5, 2), (5, 9), (7, 4)], vec![(7, 5), (9, 1)]],
+        &[vec![(3, 3), (5, 4)]],
+    );
+    assert_eq!(card[..8], [1, 8, 4, 3, 2, 1, 5, 4]);
+    assert_eq!(
+        live(&card),
+        [(3, 3), (5, 4), (5, 9), (7, 4), (7, 5), (9, 1)]
+    );
+    card
+}
+
+#[test]
+fn judgements_one_by_one() {
+    let example = judged_example();
+    let with = |changes: &[(usize, u32)]| {
+        let mut card = example.clone();
+        for &(word, value) in changes {
+            card[word] = value;
+        }
+        second::judge(&card)
+    };
+    // The blocks' words: place 0 from 16 (second old), 1 from 24 (new), 2 from 32 (free), 3 from
+    // 40 (first old). The map: 8, 10, 12, 14.
+    assert_eq!(with(&[]), 0);
+    for length in 0..8 {
+        assert_eq!(second::judge(&example[..length]), 1);
+        assert_eq!(second::judge(&vec![0; length]), 1);
+    }
+    for length in 8..48 {
+        assert_eq!(second::judge(&example[..length]), 1);
+        assert_eq!(second::judge(&vec![0; length]), 2);
+    }
+    let too_long = [&example[..], &[0]].concat();
+    assert_eq!(second::judge(&too_long), 1);
+    assert_eq!(with(&[(0, 0)]), 2);
+    assert_eq!(with(&[(0, 2), (1, 0)]), 2);
+    for b in [0, 7, 1025, u32::MAX] {
+        assert_eq!(with(&[(1, b)]), 3);
+    }
+    for n in [0, 1, 1025, u32::MAX] {
+        assert_eq!(with(&[(2, n)]), 3);
+    }
+    assert_eq!(with(&[(1, 9)]), 1);
+    assert_eq!(with(&[(2, 5), (3, 9)]), 1);
+    assert_eq!(with(&[(3, 4)]), 3);
+    assert_eq!(with(&[(4, 3)]), 3);
+    assert_eq!(with(&[(5, 2)]), 3);
+    assert_eq!(with(&[(4, u32::MAX)]), 3);
+    assert_eq!(with(&[(5, u32::MAX)]), 3);
+    assert_eq!(with(&[(4, u32::MAX), (5, 2)]), 3);
+    assert_eq!(with(&[(4, 1 << 31), (5, 1 << 31)]), 3);
+    assert_eq!(with(&[(6, 0)]), 3);
+    assert_eq!(with(&[(7, 0)]), 3);
+    assert_eq!(with(&[(6, 0), (7, 0)]), 3);
+    assert_eq!(with(&[(5, 0)]), 3);
+    assert_eq!(with(&[(5, 0), (6, 0)]), 3);
+    assert_eq!(with(&[(5, 0), (7, 0)]), 3);
+    assert_eq!(with(&[(5, 0), (6, 0), (7, 0)]), 0);
+    // Free words are never judged.
+    for word in (12..14).chain(32..40) {
+        assert_eq!(with(&[(word, u32::MAX)]), 0);
+    }
+    // The map.
+    for word in [8, 9, 10, 11, 14, 15] {
+        assert_eq!(with(&[(word, 8)]), 4);
+        assert_eq!(with(&[(word, 0)]), 4);
+    }
+    // The first old block, 5 2 2 9 7 1 4 0.
+    assert_eq!(with(&[(40, 0)]), 4);
+    assert_eq!(with(&[(41, 0)]), 4);
+    assert_eq!(with(&[(41, 7)]), 4);
+    assert_eq!(with(&[(41, u32::MAX)]), 4);
+    assert_eq!(with(&[(42, 0), (15, 0)]), 4);
+    assert_eq!(with(&[(43, 2)]), 4);
+    assert_eq!(with(&[(43, 1)]), 4);
+    assert_eq!(with(&[(44, 5)]), 4);
+    assert_eq!(with(&[(44, 4)]), 4);
+    assert_eq!(with(&[(45, 0)]), 4);
+    assert_eq!(with(&[(45, 3)]), 4);
+    assert_eq!(with(&[(45, u32::MAX)]), 4);
+    assert_eq!(with(&[(46, 0)]), 4);
+    assert_eq!(with(&[(47, 1)]), 4);
+    assert_eq!(with(&[(42, 4), (15, 4)]), 0);
+    // Two words left at its end must be 0.
+    assert_eq!(with(&[(44, 0), (45, 0), (46, 0)]), 0);
+    assert_eq!(with(&[(44, 0)]), 4);
+    // Rising from the first old block (ends 7 4) to the second (begins 7 5).
+    assert_eq!(with(&[(46, 5)]), 4);
+    assert_eq!(with(&[(46, 6)]), 4);
+    assert_eq!(with(&[(46, 3)]), 0);
+    // The boundary is the last new pair.
+    assert_eq!(with(&[(6, 6)]), 4);
+    assert_eq!(with(&[(7, 3)]), 4);
+    assert_eq!(with(&[(7, 5)]), 4);
+    // The first old block needs a pair above it: 7 4 is, 7 3 is, 5 9 is.
+    assert_eq!(with(&[(27, 7), (29, 3), (6, 7), (7, 3)]), 0);
+    assert_eq!(with(&[(27, 7), (29, 4), (6, 7), (7, 4)]), 4);
+    assert_eq!(with(&[(27, 8), (29, 1), (6, 8), (7, 1)]), 4);
+    assert_eq!(with(&[(27, 8), (29, 1), (6, 8), (7, 1), (4, 0), (3, 1)]), 0);
+    // A live block of zeros.
+    let mut empty = zeros(4);
+    empty[4] = 1;
+    assert_eq!(second::judge(&empty), 4);
+}
+
+#[test]
+fn packing_agrees_with_the_words_of_a_block() {
+    let mut random = Random::new(11);
+    let mut checked = 0;
+    for _ in 0..20_000 {
+        let universe = Universe::random(&mut random);
+        let b = random.pick(&[8, 9, 10, 11, 16, 33]);
+        let mut set = BTreeSet::new();
+        for _ in 0..1 + random.below(40) {
+            set.insert((universe.term(&mut random), universe.position(&mut random)));
+        }
+        let pairs: Vec<Pair> = set.into_iter().collect();
+        let beginning = block::longest_beginning(pairs.iter().copied(), b);
+        assert!(!beginning.is_empty());
+        assert!(pairs.starts_with(&beginning));
+        let words = block::block_words(&beginning, b);
+        assert_eq!(block::pairs(&words), Some(beginning.clone()));
+        if beginning.len() < pairs.len() {
+            let more = &pairs[..beginning.len() + 1];
+            let terms: BTreeSet<u32> = more.iter().map(|pair| pair.0).collect();
+            assert!(more.len() + 2 * terms.len() > b);
+        }
+        checked += 1;
+    }
+    println!("packing_agrees_with_the_words_of_a_block: {checked} comparisons");
+}
+
+/// A pair is in the result where it was added, or was there and not removed.
+#[test]
+fn batches_applied_pair_by_pair() {
+    let mut random = Random::new(12);
+    let mut checked = 0;
+    for _ in 0..10_000 {
+        let universe = Universe::random(&mut random);
+        let batch = batches::good(&mut random, &universe, Mixture::Both, 12);
+        let mut set = BTreeSet::new();
+        for _ in 0..random.below(30) {
+            set.insert((universe.term(&mut random), universe.position(&mut random)));
+        }
+        let result = second::applied(&batch, &set);
+        for &term in &universe.terms {
+            for &position in &universe.positions {
+                let touched = |kind: u32| {
+                    batch.chunks(4).any(|record| {
+                        let in_range = record[2] <= position && position <= record[3];
+                        record[0] == kind && record[1] == term && in_range
+                    })
+                };
+                let pair = (term, position);
+                let expected = touched(1) || (set.contains(&pair) && !touched(2));
+                assert_eq!(result.contains(&pair), expected);
+                checked += 1;
+            }
+        }
+        let known =
+            |pair: &Pair| universe.terms.contains(&pair.0) && universe.positions.contains(&pair.1);
+        assert!(result.iter().all(known));
+    }
+    println!("batches_applied_pair_by_pair: {checked} comparisons");
+}
+
+#[test]
+fn lists_of_calls_against_the_history() {
+    let mut figures = Figures::default();
+    for seed in 0..1500 {
+        let mut random = Random::new(1000 + seed);
+        let b = random.pick(&[8, 8, 8, 9, 10, 11, 13, 16, 24]);
+        let n = random.pick(&[2, 3, 3, 4, 4, 5, 6, 7, 9, 12]);
+        let mut list = List::start(&Second, &mut random, b, n);
+        for _ in 0..200 {
+            list.call(&mut random, &mut figures);
+        }
+    }
+    println!(
+        "lists_of_calls_against_the_history: {} comparisons, {figures:?}",
+        figures.calls
+    );
+    assert!(figures.writes[1] > 1000 && figures.writes[2] > 1000 && figures.writes[3] > 1000);
+    assert!(figures.cuts[1] > 1000 && figures.cuts[2] > 1000 && figures.cuts[3] > 1000);
+    assert!(figures.finished > 1000 && figures.stopped_by_8 > 1000 && figures.landed > 1000);
+    assert!(figures.wrapped > 1000 && figures.postings > 1000);
+}
+
+/// Runs a pass to its end. Gives the steps taken and the last answer's number.
+fn whole_pass(card: &mut [u32], batch: &[u32]) -> (u32, u32) {
+    let limit = second::step_limit(second::blocks_filled(card, batch));
+    let wanted = second::what_remains(card, batch);
+    let mut moved = second::live_pairs(card);
+    if let Some(boundary) = Configuration::read(card).boundary() {
+        moved.retain(|&pair| pair <= boundary);
+        moved.extend(&wanted);
+    } else {
+        moved = wanted;
+    }
+    for taken in 1.. {
+        let answer = second::step(card, batch);
+        assert_eq!(second::judge(card), 0);
+        assert!(taken <= limit, "a pass beyond its step limit");
+        if answer.number != 0 {
+            assert_eq!(answer.number, 8);
+            return (taken, 8);
+        }
+        if answer.finished {
+            assert_eq!(second::live_pairs(card), moved);
+            return (taken, 0);
+        }
+    }
+    unreachable!()
+}
+
+#[test]
+fn passes_keep_the_step_limit() {
+    let mut passes = 0;
+    let mut at_limit = 0;
+    let mut stopped = 0;
+    for seed in 0..6000 {
+        let mut random = Random::new(50_000 + seed);
+        let b = random.pick(&[8, 8, 9, 10, 12, 16, 20]);
+        let n = random.pick(&[2, 3, 4, 5, 6, 8, 11]);
+        let mut card = if random.chance(1, 2) {
+            cards::stepped(&mut random, b, n)
+        } else {
+            cards::loose(&mut random, b, n)
+        };
+        let universe = Universe::random(&mut random);
+        for mixture in [Mixture::Both, Mixture::Additions] {
+            let most = random.pick(&[2, 10, 60]);
+            let batch = batches::good(&mut random, &universe, mixture, most);
+            let limit = second::step_limit(second::blocks_filled(&card, &batch));
+            let (taken, number) = whole_pass(&mut card, &batch);
+            passes += 1;
+            at_limit += u32::from(number == 0 && taken == limit);
+            stopped += u32::from(number == 8);
+        }
+        // An empty batch is never stopped by 8.
+        let (_, number) = whole_pass(&mut card, &[]);
+        assert_eq!(number, 0);
+        passes += 1;
+    }
+    println!(
+        "passes_keep_the_step_limit: {passes} comparisons, {at_limit} at the limit, \
+         {stopped} stopped by 8"
+    );
+    assert!(at_limit > 1000 && stopped > 500);
+}
+
+/// A batch of removals that takes out some of the card's own pairs.
+fn removals_of(random: &mut Random, card: &[u32]) -> Vec<u32> {
+    let mut records = Vec::new();
+    for (term, position) in second::live_pairs(card) {
+        if random.chance(1, 4) {
+            records.push(removal(
+                term,
+                position,
+                position.saturating_add(random.below(3) as u32),
+            ));
+        }
+    }
+    batches::words(records)
+}
+
+#[test]
+fn removals_with_two_places_free_always_go_through() {
+    let mut passes = 0;
+    let mut stopped_with_one = 0;
+    for seed in 0..12_000 {
+        let mut random = Random::new(90_000 + seed);
+        let b = random.pick(&[8, 8, 9, 10, 12]);
+        let n = random.pick(&[3, 4, 5, 6, 8]);
+        let mut card = cards::loose(&mut random, b, n);
+        let batch = removals_of(&mut random, &card);
+        let free = Configuration::read(&card).free_places().len();
+        let (_, number) = whole_pass(&mut card, &batch);
+        if free >= 2 {
+            assert_eq!(number, 0);
+            passes += 1;
+        } else if number == 8 {
+            stopped_with_one += 1;
+        }
+    }
+    println!(
+        "removals_with_two_places_free_always_go_through: {passes} comparisons, \
+         {stopped_with_one} stopped with one place free"
+    );
+    assert!(passes > 1000);
+}
+
+#[test]
+fn lookups_on_loose_cards() {
+    let mut lookups = 0;
+    let mut spread = 0;
+    for seed in 0..4000 {
+        let mut random = Random::new(130_000 + seed);
+        let b = random.pick(&[8, 9, 12, 20]);
+        let n = random.pick(&[2, 3, 5, 8, 12]);
+        let card = cards::loose(&mut random, b, n);
+        let pairs = second::live_pairs(&card);
+        let known: Vec<Pair> = pairs.iter().copied().collect();
+        for _ in 0..20 {
+            let (term, near) = if known.is_empty() || random.chance(1, 8) {
+                (random.within(1, u32::MAX), random.word())
+            } else {
+                random.pick(&known)
+            };
+            let from = near
+                .saturating_sub(random.pick(&[0, 1, 5, u32::MAX]))
+                .max(1);
+            let to = near
+                .saturating_add(random.pick(&[0, 1, 5, u32::MAX]))
+                .max(from);
+            let expected: Vec<u32> = pairs
+                .iter()
+                .filter(|pair| pair.0 == term && from <= pair.1 && pair.1 <= to)
+                .map(|pair| pair.1)
+                .collect();
+            let mut answer = vec![0; expected.len()];
+            let reply = second::lookup(&card, term, from, to, &mut answer);
+            assert_eq!((reply.number, &answer), (0, &expected));
+            assert_eq!(reply.count as usize, expected.len());
+            let holders = lists::holders(&card, term, from, to);
+            assert!(holders <= reply.blocks && reply.blocks <= holders + 2);
+            spread += u32::from(reply.blocks == holders + 2);
+            lists::check_lookup_beside(&card, term, from, to, &expected);
+            lookups += 1;
+        }
+    }
+    println!("lookups_on_loose_cards: {lookups} comparisons, {spread} two above the holders");
+    assert!(spread > 10);
+}
+
+#[test]
+fn refused_calls_on_unsound_cards() {
+    let mut random = Random::new(7);
+    let mut refusals = 0;
+    for _ in 0..4000 {
+        let mut card = cards::stepped(&mut random, 8, 4);
+        let word = random.below(card.len());
+        card[word] = random.pick(&[0, 1, 2, u32::MAX]);
+        let number = second::judge(&card);
+        if number == 0 {
+            continue;
+        }
+        let before = card.clone();
+        let universe = Universe::random(&mut random);
+        for batch in [Vec::new(), batches::bad(&mut random, &universe)] {
+            assert_eq!(second::step(&mut card, &batch), refused(number));
+            assert_eq!(second::due_write(&card, &batch), None);
+        }
+        for (term, from, to) in [(1, 1, 9), (0, 0, 0)] {
+            let mut answer = [5; 3];
+            let reply = second::lookup(&card, term, from, to, &mut answer);
+            assert_eq!((reply.number, reply.count, reply.blocks), (number, 0, 0));
+            assert_eq!(answer, [5; 3]);
+            lists::check_lookup_beside(&card, term, from, to, &[]);
+            assert_eq!(second::run_view_number(&card, term, from, to), number);
+        }
+        assert_eq!(card, before);
+        refusals += 1;
+    }
+    println!("refused_calls_on_unsound_cards: {refusals} comparisons");
+    assert!(refusals > 1000);
+}
