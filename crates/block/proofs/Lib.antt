@@ -1,4 +1,5 @@
 pub mod Due
+pub mod Entries
 pub mod Filling
 pub mod Packing
 pub mod Reading
