@@ -11,16 +11,16 @@ HOST_FILES = $(wildcard host/*.c)
 HOST_HEADERS = $(wildcard host/*.h)
 BENCH_FILES = bench/bench.c bench/bench.h
 BENCH_CC = $(CC) $(WARNINGS) -O3 -Iinclude -Ibench
-TEST_FILES = tests/c/test_gameindex.c tests/c/format_judge.c tests/c/step.c
+TEST_FILES = tests/c/test_gameindex.c tests/c/format_judge.c tests/c/step.c tests/c/lookup.c
 C_FILES = $(wildcard include/*.h host/*.[ch] tests/c/*.[ch] bench/*.[ch])
 
 .DELETE_ON_ERROR:
 .PHONY: help run test bench fmt clean
 
 help:
-	@echo 'make run     build the library and the host program; make a card and apply a batch to it'
+	@echo 'make run     build the library and the host program; make a card, apply a batch, look up'
 	@echo 'make test    run the merge gate, .ci/run'
-	@echo 'make bench   time the judge against one in plain C, and steps against the judge'
+	@echo 'make bench   time the judge against one in plain C, steps and lookups against the judge'
 	@echo 'make fmt     format Rattle, Rust and C files'
 	@echo 'make clean   remove all that was built'
 
@@ -32,14 +32,18 @@ run: target/gameindex
 	target/gameindex apply target/demo.card target/demo.batch
 	target/gameindex judge target/demo.card
 	target/gameindex show target/demo.card
+	target/gameindex lookup target/demo.card 5
+	target/gameindex lookup target/demo.card 8 2 9
 
 test:
 	.ci/run
 
-bench: target/bench_judge target/bench_step
+bench: target/bench_judge target/bench_step target/bench_lookup
 	target/bench_judge
 	@echo
 	target/bench_step
+	@echo
+	target/bench_lookup
 
 fmt:
 	rt fmt
@@ -68,3 +72,6 @@ target/bench_judge: bench/judge.c bench/judge_c.c bench/judge_c.h $(BENCH_FILES)
 
 target/bench_step: bench/step.c $(BENCH_FILES) $(HEADER) $(LIBRARY)
 	$(BENCH_CC) -o $@ bench/step.c bench/bench.c $(LIBRARY)
+
+target/bench_lookup: bench/lookup.c $(BENCH_FILES) $(HEADER) $(LIBRARY)
+	$(BENCH_CC) -o $@ bench/lookup.c bench/bench.c $(LIBRARY)

@@ -28,6 +28,13 @@ double seconds(void) {
     return (double)now.tv_sec + 1e-9 * (double)now.tv_nsec;
 }
 
+double timed_judge(const uint32_t *card) {
+    double began = seconds();
+    if (gi_judge(card, CARD_WORDS) != GI_DONE)
+        give_up("a sound card was refused");
+    return seconds() - began;
+}
+
 uint32_t *block_at(uint32_t *card, uint32_t place) {
     return card + GI_CONFIG_WORDS + PLACES * GI_MAP_ENTRY_WORDS + (size_t)place * BLOCK_WORDS;
 }
@@ -44,8 +51,7 @@ void start_card(uint32_t *card, uint32_t live) {
     card[GI_CONFIG_OLD_LENGTH] = live;
 }
 
-/* The positions of the first term, so that live places hold some ten thousand
- * terms. */
+/* The positions of the first term, so that a full card has some 28,000 terms. */
 static uint32_t most_frequent(uint32_t live) {
     return 90 * live;
 }

@@ -25,6 +25,9 @@ uint32_t *words_for(size_t count);
 
 double seconds(void);
 
+/* Seconds of one call of the judge on a sound card. */
+double timed_judge(const uint32_t *card);
+
 /* Where the block and the map entry of a place stand. */
 uint32_t *block_at(uint32_t *card, uint32_t place);
 uint32_t *map_entry_at(uint32_t *card, uint32_t place);

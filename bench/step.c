@@ -56,13 +56,6 @@ static void put_back(uint32_t *card, const struct before *words) {
     memcpy(block_at(card, words->place), words->block, sizeof words->block);
 }
 
-static double timed_judge(const uint32_t *card) {
-    double began = seconds();
-    if (gi_judge(card, CARD_WORDS) != GI_DONE)
-        give_up("a sound card was refused");
-    return seconds() - began;
-}
-
 /* Times the step that is next, beside the judge; the card stands. */
 static void time_step(const char *where, uint32_t *card, const uint32_t *batch) {
     struct before words = kept(card);

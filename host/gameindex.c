@@ -15,6 +15,7 @@
 #include "apply.h"
 #include "card_file.h"
 #include "gameindex.h"
+#include "lookup.h"
 #include "report.h"
 
 /* ---- format */
@@ -119,15 +120,17 @@ struct command {
     const char *name;
     const char *words;
     int count; /* how many words it takes */
+    int more;  /* how many it may take after them, all or none */
     const char *about;
-    int (*run)(char **words);
+    int (*run)(char **words); /* the words, and NULL after them */
 };
 
 static const struct command commands[] = {
-    {"format", "CARD B N", 3, "make an empty index of N places of B words", run_format},
-    {"apply", "CARD BATCH", 2, "apply a file of batch words, or - for standard input", run_apply},
-    {"judge", "CARD", 1, "say whether the card is sound", run_judge},
-    {"show", "CARD", 1, "show the configuration words and the live places", run_show},
+    {"format", "CARD B N", 3, 0, "make an empty index of N places of B words", run_format},
+    {"apply", "CARD BATCH", 2, 0, "apply a file of batch words, or - for standard input", run_apply},
+    {"lookup", "CARD TERM [FROM TO]", 2, 2, "show a term's running numbers, all or those in a range", run_lookup},
+    {"judge", "CARD", 1, 0, "say whether the card is sound", run_judge},
+    {"show", "CARD", 1, 0, "show the configuration words and the live places", run_show},
 };
 
 enum { COMMANDS = sizeof commands / sizeof *commands };
@@ -135,7 +138,7 @@ enum { COMMANDS = sizeof commands / sizeof *commands };
 static void usage(FILE *out) {
     fprintf(out, "usage: gameindex COMMAND CARD ...\n\n");
     for (int i = 0; i < COMMANDS; i++)
-        fprintf(out, "  %-7s %-11s %s\n", commands[i].name, commands[i].words, commands[i].about);
+        fprintf(out, "  %-7s %-20s %s\n", commands[i].name, commands[i].words, commands[i].about);
     fprintf(out, "\nfiles are 32-bit words, little-endian; a batch is records of four: kind (1 adds, 2 removes),\n"
                  "term, from, to, by term, then from; an addition has from and to alike\n");
     fprintf(out, "\nexit status: 0 done, 1 refused (the number is shown), 2 a fault of the file or the command line\n");
@@ -146,9 +149,11 @@ static int run_command(int count, char **words) {
         usage(stdout);
         return EXIT_DONE;
     }
-    for (int i = 0; count > 0 && i < COMMANDS; i++)
-        if (strcmp(words[0], commands[i].name) == 0 && count - 1 == commands[i].count)
+    for (int i = 0; count > 0 && i < COMMANDS; i++) {
+        int left_over = count - 1 - commands[i].count;
+        if (strcmp(words[0], commands[i].name) == 0 && (left_over == 0 || left_over == commands[i].more))
             return commands[i].run(words + 1);
+    }
     usage(stderr);
     return EXIT_FAULT;
 }

@@ -19,6 +19,8 @@ static const char *const meanings[] = {
     [GI_BATCH_RECORD] = "the batch is not up to 4,096 records of kind 1 or 2, term, from and to",
     [GI_BATCH_ORDER] = "the records of the batch are not in order of term, then from",
     [GI_CARD_FULL] = "the card is full: the next block would leave no place free",
+    [GI_LOOKUP_RANGE] = "term and from must be at least 1, and from at most to",
+    [GI_LOOKUP_ANSWER] = "the answer has fewer words than there are positions",
 };
 
 static const char *meaning(uint32_t number) {

@@ -28,7 +28,9 @@ enum {
     GI_FORMAT_LIMITS = 5,      /* the formatter's B or N is outside its limits */
     GI_BATCH_RECORD = 6,       /* a length that is no records, too many of them, or a record that is none */
     GI_BATCH_ORDER = 7,        /* the records fall from one to the next */
-    GI_CARD_FULL = 8           /* the step would leave no place free */
+    GI_CARD_FULL = 8,          /* the step would leave no place free */
+    GI_LOOKUP_RANGE = 9,       /* term or from is 0, or from is above to */
+    GI_LOOKUP_ANSWER = 10      /* fewer answer words than positions */
 };
 
 /* The limits of a card. */
@@ -57,6 +59,10 @@ enum {
     GI_WRITE_MAP_ENTRY = 2,    /* the two map words of the due place */
     GI_WRITE_CONFIGURATION = 3 /* configuration words; they are written as one */
 };
+
+/* The range of all positions, and of all terms. */
+#define GI_LOWEST ((uint32_t)1)
+#define GI_HIGHEST UINT32_MAX
 
 /* Where each configuration word stands. */
 enum {
@@ -103,6 +109,19 @@ uint32_t gi_judge(const uint32_t *card, size_t card_len);
  * and finished is 1 where the pass is done. They are 0 in all other cases. */
 uint32_t gi_step(uint32_t *card, size_t card_len, const uint32_t *batch, size_t batch_len, uint32_t *write,
                  uint32_t *freed, uint32_t *finished);
+
+/* Looks up the positions of a term from from to to, both included. They come
+ * rising in the first answer words, their number in found; other answer words
+ * are left as they are. blocks is the number of blocks that the map names for
+ * the question, at most two more than hold a position of the answer.
+ *
+ * Gives the judge's number for a card that is not sound; then 9 where term or
+ * from is 0 or from is above to; then 10 where there are more positions than
+ * answer_len. After a refusal found and blocks are 0 and no answer word has
+ * changed. Gives 0 otherwise. Writes nothing to the card. An answer of as many
+ * words as the card has is never too short. */
+uint32_t gi_lookup(const uint32_t *card, size_t card_len, uint32_t term, uint32_t from, uint32_t to, uint32_t *answer,
+                   size_t answer_len, uint32_t *found, uint32_t *blocks);
 
 #ifdef __cplusplus
 }

@@ -177,6 +177,31 @@ batch front.batch 1 4 1 1
 refused 8 'a block in front that frees none' two.card front.batch
 check 'it says that no pass is open' grep -q 'no pass is open' out
 
+# ---- lookup
+
+lookup() { # ANSWER COUNTS WHAT CARD TERM..: the answer, one number to a line, then the counts
+    run 0 "$3" lookup "${@:4}"
+    check "$3: the answer" [ "$(sed '$d' out | tr '\n' ' ')" = "$1" ]
+    check "$3: the counts" grep -q ": $2\$" <(tail -n 1 out)
+}
+cp case1.card before.card
+lookup '2 9 ' '2 positions, 1 block read' 'look up 5' case1.card 5
+check 'the whole range is named' grep -q 'term 5 from 1 to 4294967295:' out
+lookup '2 9 ' '2 positions, 1 block read' 'look up 5 from 1 to 9' case1.card 5 1 9
+lookup '' '0 positions, 1 block read' 'look up 5 from 3 to 8' case1.card 5 3 8
+lookup '' '0 positions, 0 blocks read' 'look up 4 from 1 to 9' case1.card 4 1 9
+lookup '' '0 positions, 1 block read' 'look up 6 from 1 to 9' case1.card 6 1 9
+lookup '9 ' '1 position, 1 block read' 'look up 5 from 9 to the highest' case1.card 5 9 4294967295
+lookup '' '0 positions, 0 blocks read' 'look up in an empty index' new.card 5
+run 1 'look up term 0' lookup case1.card 0
+check 'it names number 9' grep -q 'number 9:' out
+run 1 'look up from 0' lookup case1.card 5 0 9
+run 1 'look up from above to' lookup case1.card 5 9 8
+run 1 'look up in a damaged card' lookup live.card 5
+check 'it names number 4' grep -q 'number 4:' out
+run 1 'look up in an empty file' lookup empty.card 5
+check 'lookups change nothing' cmp -s case1.card before.card
+
 # one run at a time writes a card, and none reads it meanwhile
 mkfifo wait.batch
 "$program" apply case1.card - <wait.batch >/dev/null 2>&1 &
@@ -188,6 +213,7 @@ for _ in $(seq 100); do
     sleep 0.1
 done
 run 2 'judge a card in use' judge case1.card
+run 2 'look up in a card in use' lookup case1.card 5
 run 2 'apply to a card in use' apply case1.card one.batch
 check 'the message names the use' grep -q 'in use' err
 exec 3>&-
@@ -233,6 +259,7 @@ head -c 192 /dev/zero | tr '\0' '\125' | dd of=grow.card bs=4 seek=20 conv=notru
 batch grow.batch 1 5 2 2 1 5 9 9 1 7 4 4 1 8 1 1 1 8 2 2 1 8 3 3
 cuts 'growth' grow.card grow.batch $'5 2\n5 9\n7 4\n8 1\n8 2\n8 3'
 run 0 'grow' apply grow.card grow.batch
+lookup '1 2 3 ' '3 positions, 1 block read' 'look up what was added' grow.card 8
 batch change.batch 1 1 1 1 2 5 1 5 1 7 9 9 2 8 2 2 1 8 9 9 2 9 1 7
 cuts 'change around the circle' grow.card change.batch $'1 1\n5 9\n7 4\n7 9\n8 1\n8 3\n8 9'
 run 0 'change' apply grow.card change.batch
@@ -257,6 +284,13 @@ run 2 'apply a batch that is not there' apply new.card none/one.batch
 run 2 'apply a folder' apply new.card .
 run 2 'apply three bytes' apply new.card odd.card
 run 2 'apply without a batch' apply new.card
+run 2 'look up a term that is no number' lookup case1.card five
+run 2 'look up a term over 32 bits' lookup case1.card 4294967296
+run 2 'look up to no number' lookup case1.card 5 1 -9
+run 2 'look up without a term' lookup case1.card
+run 2 'look up with half a range' lookup case1.card 5 1
+run 2 'look up with a word too many' lookup case1.card 5 1 9 9
+run 2 'look up in a file that is not there' lookup none.card 5
 run 2 'an unknown command' frobnicate new.card
 run 2 'no command'
 run 0 'help' help

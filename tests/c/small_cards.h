@@ -16,6 +16,7 @@ extern int failed;
 /* The tests, by the functions that they call. */
 void test_format_judge(void);
 void test_step(void);
+void test_lookup(void);
 
 static inline void check(bool holds, const char *group, const char *what) {
     if (holds) {

@@ -9,6 +9,7 @@ int failed;
 int main(void) {
     test_format_judge();
     test_step();
+    test_lookup();
     printf("%d passed, %d failed\n", passed, failed);
     return failed == 0 ? 0 : 1;
 }
