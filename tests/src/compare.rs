@@ -2,7 +2,7 @@
 
 use crate::ffi;
 use crate::random::Random;
-use crate::second::{self, Configuration, StepAnswer};
+use crate::second::{self, Configuration, LookupAnswer, StepAnswer};
 
 /// How often each number came out of a test's comparisons.
 #[derive(Clone, Debug, Default)]
@@ -337,4 +337,77 @@ pub fn pass(steps: &mut Steps, card: &mut [u32], batch: &[u32], about: &dyn Fn()
         }
     }
     unreachable!()
+}
+
+/// A term, from and to.
+pub type Question = (u32, u32, u32);
+
+/// Both lookups give the same answer and leave the same answer words, the ones not needed as they
+/// were; a refused one leaves them all; card, and words around the answer words, stay.
+pub fn lookup(
+    tally: &mut Tally,
+    card: &[u32],
+    (term, from, to): Question,
+    answer: &[u32],
+    about: &dyn Fn() -> String,
+) -> LookupAnswer {
+    let mut expected_words = answer.to_vec();
+    let expected = second::lookup(card, term, from, to, &mut expected_words);
+    let before = card.to_vec();
+    let mut lent = Guarded::new(answer);
+    let reply = ffi::lookup(card, term, from, to, lent.inside());
+    let message = || {
+        format!(
+            "{}; term {term} from {from} to {to}, {} answer words; a card of {} words: {}",
+            about(),
+            answer.len(),
+            before.len(),
+            shown(&before)
+        )
+    };
+    assert_eq!(
+        reply,
+        expected,
+        "lookup gave the left, the second program the right; {}",
+        message()
+    );
+    if reply.number != 0 {
+        let counts = (reply.count, reply.blocks);
+        assert_eq!(counts, (0, 0), "counts of a refusal; {}", message());
+        assert!(
+            lent.inside() == answer,
+            "a refused lookup changed words; {}",
+            message()
+        );
+    }
+    assert_eq!(lent.inside(), expected_words, "answer words; {}", message());
+    assert!(lent.guards_stand(), "lookup wrote outside; {}", message());
+    assert!(before == card, "lookup changed its card; {}", message());
+    tally.note(reply.number);
+    reply
+}
+
+/// The lookup with just enough answer words, with one too few, and with another number of them.
+/// Gives the answer to the one with just enough.
+pub fn lookups(
+    tally: &mut Tally,
+    random: &mut Random,
+    card: &[u32],
+    question: Question,
+    about: &dyn Fn() -> String,
+) -> LookupAnswer {
+    let (term, from, to) = question;
+    let found = second::PostingReader::open(card, term, from, to).count();
+    if found > 0 {
+        let few = [found - 1, random.below(found)];
+        lookup(tally, card, question, &random.words(few[0]), about);
+        if random.chance(1, 4) {
+            lookup(tally, card, question, &random.words(few[1]), about);
+        }
+    }
+    if random.chance(1, 3) {
+        let more = found + 1 + random.below(6);
+        lookup(tally, card, question, &random.words(more), about);
+    }
+    lookup(tally, card, question, &random.words(found), about)
 }

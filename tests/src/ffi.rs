@@ -1,6 +1,7 @@
 // The C functions under test and safe wrappers over slices.
 
-use crate::second::StepAnswer;
+use crate::lists::Program;
+use crate::second::{LookupAnswer, StepAnswer};
 
 /// What stands in a count's word before the call, so that a word left unwritten is seen.
 const UNWRITTEN: u32 = 0xA5A5_A5A5;
@@ -17,6 +18,17 @@ mod c {
             write: *mut u32,
             freed: *mut u32,
             finished: *mut u32,
+        ) -> u32;
+        pub fn gi_lookup(
+            card: *const u32,
+            card_len: usize,
+            term: u32,
+            from: u32,
+            to: u32,
+            answer: *mut u32,
+            answer_len: usize,
+            found: *mut u32,
+            blocks: *mut u32,
         ) -> u32;
     }
 }
@@ -54,5 +66,57 @@ pub fn step(card: &mut [u32], batch: &[u32]) -> StepAnswer {
         write,
         freed,
         finished: finished == 1,
+    }
+}
+
+pub fn lookup(card: &[u32], term: u32, from: u32, to: u32, answer: &mut [u32]) -> LookupAnswer {
+    let (mut count, mut blocks) = (UNWRITTEN, UNWRITTEN);
+    // SAFETY: each pointer and length are those of one slice; the answer's is lent for writing, and
+    // the counts are words of this call.
+    let number = unsafe {
+        c::gi_lookup(
+            card.as_ptr(),
+            card.len(),
+            term,
+            from,
+            to,
+            answer.as_mut_ptr(),
+            answer.len(),
+            &mut count,
+            &mut blocks,
+        )
+    };
+    LookupAnswer {
+        number,
+        count,
+        blocks,
+    }
+}
+
+/// The library under test, for lists of calls.
+pub struct Library;
+
+impl Program for Library {
+    fn format(&self, card: &mut [u32], b: u32, n: u32) -> u32 {
+        format(card, b, n)
+    }
+
+    fn judge(&self, card: &[u32]) -> u32 {
+        judge(card)
+    }
+
+    fn step(&self, card: &mut [u32], batch: &[u32]) -> StepAnswer {
+        step(card, batch)
+    }
+
+    fn lookup(
+        &self,
+        card: &[u32],
+        term: u32,
+        from: u32,
+        to: u32,
+        answer: &mut [u32],
+    ) -> LookupAnswer {
+        lookup(card, term, from, to, answer)
     }
 }
