@@ -5,10 +5,11 @@ use native.Mathlib.Omega.{arith}
 use mathlib.Core.Path.{_≡_, refl, sym, ap, _∙_}
 use mathlib.Core.Bool.{Bool, true, false, cond}
 use mathlib.Core.List.{List, [], _∷_, _++_, map}
-use borrow.Author.Tests.{eq-eqb, ne-eqb}
+use borrow.Author.Tests.{eq-eqb, ne-eqb, ltb-false}
 use lib.ListN.{length, take, drop, getD, length-drop}
 use lib.Seq.{sets, drop-cons}
-use lib.Dec.{eqb}
+use lib.Dec.{ltb, eqb}
+use Rattle.pair.proofs.FirstOf.{passed, handed-on}
 use Rattle.card.specs.Layout.{placeCount, around}
 use Rattle.card.proofs.Parts.{part-sets-same}
 use Rattle.lookup.specs.declared.walk.Stretch.{Stretch}
@@ -19,7 +20,7 @@ use Rattle.lookup.specs.declared.reading.Step.{Step}
 use Rattle.lookup.specs.declared.reading.Yield.{Yield}
 use Rattle.lookup.specs.declared.reading.Yield.the-variants.{Posting, End}
 use Rattle.lookup.specs.Found.{found, questionNumber, lookupNumber, lookup, posting, ended, yielded}
-use Rattle.lookup.specs.Reading.{allYielded, Stands, yieldOf, Stepped}
+use Rattle.lookup.specs.Reading.{allYielded, Stands, yieldOf, Stepped, Later}
 use Rattle.lookup.specs.Segment.{Opened}
 use Rattle.lookup.specs.Walk.{aheadOf, ahead, Ready, ReadyWalk, Next}
 use Rattle.lookup.proofs.Answers.{lookup-found}
@@ -157,10 +158,46 @@ stepped-end {c} {m} {w} {r} at x l =
     behind : (t a z n : ℕ) → Stands c t a z n (record { number = m; at = at; left = 0; walk = w }) → ahead c (r .rest) ≡ []
     behind t a z n q = sym (rw l at (x .rest (q .ready))) ∙ x .none (q .ready) l
 
--- What a reader yields is the lookup: with words enough, the yield after n others is the answer's word n, and the end behind the last.
+-- behind the end there is the end
+end-again : (ys : List ℕ) (n j : ℕ) → getD (map posting ys) n ended ≡ ended → getD (map posting ys) (n + j) ended ≡ ended
+end-again [] n j e = refl
+end-again (y ∷ ys) zero j e = absurd (let z : _≡_ {A = ℕ} 0 1 = cc in omega arith)
+end-again (y ∷ ys) (suc n) j e = let q : suc n + j ≡ suc (n + j) = omega arith in rw q (end-again ys n j e)
+
+-- the cursor k is behind i yields from the cursor v on
+pub record Behind (c : List ℕ) (v : Cursor) (n : ℕ) (k : Cursor) (i : ℕ) : Type 0 where
+  pub within : i ≤ n
+  pub stands : (t a z m : ℕ) → Stands c t a z m v → Stands c t a z (m + i) k
+
+pub behind-start : (c : List ℕ) (v : Cursor) (n : ℕ) → Behind c v n v 0
+behind-start c v n = record { within = zero-le; stands = λ t a z m s. let e : m + 0 ≡ m = omega arith in rw e s }
+
+pub behind-turn : {c : List ℕ} {v : Cursor} {n : ℕ} {k : Cursor} {i : ℕ} {r : Step} → Behind c v n k i → i < n → Stepped c k r → Behind c v n (r .cursor) (i + 1)
+behind-turn {c} {v} {n} {k} {i} b l s =
+    record {
+      within = omega arith;
+      stands = λ t a z m q. let e : m + i + 1 ≡ m + (i + 1) = omega arith in rw e at (s .stands t a z (m + i) (b .stands t a z m q));
+    }
+
+pub behind-end : {c : List ℕ} {v : Cursor} {n : ℕ} {k : Cursor} {i : ℕ} {r : Step} → Behind c v n k i → n ≤ i → Stepped c k r → Later c v n (r .yielded)
+behind-end {c} {v} {n} {k} {i} b l s =
+    record { yields = λ t a z m q. let e : m + n ≡ m + i = omega (arith, b .within) in rw e (s .yields t a z (m + i) (b .stands t a z m q)) }
+
+pub behind-stop : {c : List ℕ} {v : Cursor} {n : ℕ} {k : Cursor} {i : ℕ} {r : Step} → Behind c v n k i → Stepped c k r → r .yielded ≡ End → Later c v n End
+behind-stop {c} {v} {n} {k} {i} {r} b s e =
+    record {
+      yields = λ t a z m q.
+          let at : yielded c t a z (m + i) ≡ ended = sym (s .yields t a z (m + i) (b .stands t a z m q)) ∙ ap yieldOf e in
+          let far : m + n ≡ m + i + (n - i) = omega (arith, b .within) in
+          sym (rw (far, yielded-all c t a z (m + i + (n - i))) (end-again (allYielded c t a z) (m + i) (n - i) (sym (yielded-all c t a z (m + i)) ∙ at)));
+    }
+
+-- What a reader yields is the lookup: with words enough, the yield after n others is word n of those that the lookup writes, and the end behind the last.
 pub yielded-lookup :
-    (c : List ℕ) (t a z : ℕ) (answer : List ℕ) → lookupNumber c t a z answer ≡ 0 → length (found c t a z) ≤ length answer → questionNumber c t a z ≡ 0 → (n : ℕ) →
+    (c : List ℕ) (t a z : ℕ) (answer : List ℕ) → lookupNumber c t a z answer ≡ 0 → (n : ℕ) →
     yielded c t a z n ≡ getD (map posting (take (lookup c t a z answer .count) (lookup c t a z answer .answer))) n ended
-unfolding yielded
-yielded-lookup c t a z answer e l q n =
-    rw (eq-eqb (questionNumber c t a z) 0 q, lookup-found c t a z answer e, part-sets-same (found c t a z) answer 0 (let z : 0 + length (found c t a z) ≤ length answer = omega arith in z))
+unfolding yielded lookupNumber
+yielded-lookup c t a z answer e n =
+    let h = handed-on (questionNumber c t a z) _ e in
+    let room : length (found c t a z) ≤ length answer = ltb-false (length answer) (length (found c t a z)) (passed (ltb (length answer) (length (found c t a z))) 9 [] (h .1) .0) in
+    rw (eq-eqb (questionNumber c t a z) 0 (h .0), lookup-found c t a z answer e, part-sets-same (found c t a z) answer 0 (let z : 0 + length (found c t a z) ≤ length answer = omega arith in z))

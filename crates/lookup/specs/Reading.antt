@@ -32,3 +32,7 @@ yieldOf End = ended
 pub record Stepped (c : List ℕ) (k : Cursor) (r : Step) : Type 0 where
   pub yields : (t a z n : ℕ) → Stands c t a z n k → yieldOf (r .yielded) ≡ yielded c t a z n
   pub stands : (t a z n : ℕ) → Stands c t a z n k → Stands c t a z (n + 1) (r .cursor)
+
+-- what is yielded after n others
+pub record Later (c : List ℕ) (k : Cursor) (n : ℕ) (y : Yield) : Type 0 where
+  pub yields : (t a z m : ℕ) → Stands c t a z m k → yieldOf y ≡ yielded c t a z (m + n)

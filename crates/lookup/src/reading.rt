@@ -1,7 +1,7 @@
 // The work of the posting reader, on a plain slice and a cursor by value: a place in the card that moves on by one posting at a time.
 ghost use mathlib.Core.Path.{_≡_};
 ghost use Prim.Native.Nat.{ℕ};
-ghost use Rattle.lookup.specs.Reading.{Stands, Stepped};
+ghost use Rattle.lookup.specs.Reading.{Stands, Stepped, Later};
 use crate::map::opened;
 use crate::run_view_number;
 use crate::walk::Stretch;
@@ -122,4 +122,24 @@ pub fn step_at(card: &[u32], cursor: Cursor) -> Step
             walk,
         },
     }
+}
+
+// What is yielded after n others.
+pub fn yield_at(card: &[u32], cursor: Cursor, n: usize) -> Yield
+    ensures { λ r. ⌜ Later (now (card .entry)) cursor n r ⌝ }
+{
+    let mut here = cursor;
+    let mut i: usize = 0;
+    while i < n {
+        let step = step_at(card, here);
+        let yielded = step.yielded;
+        if let Yield::End = yielded {
+            return Yield::End;
+        }
+        let behind = step.cursor;
+        here = behind;
+        i += 1;
+    }
+    let last = step_at(card, here);
+    last.yielded
 }

@@ -1,10 +1,12 @@
 // The posting reader: the card beside a place in it.
 ghost use mathlib.Core.Path.{_≡_};
-ghost use Rattle.lookup.specs.Reading.{Stands, Stepped};
+ghost use Rattle.lookup.specs.Found.{yielded};
+ghost use Rattle.lookup.specs.Reading.{Stands, yieldOf, Stepped};
 use lookup::reading::Cursor;
 use lookup::reading::Yield;
 use lookup::reading::open_at;
 use lookup::reading::step_at;
+use lookup::reading::yield_at;
 
 // It yields the postings of its question one after another, then the end for ever.
 pub struct PostingReader<'a> {
@@ -27,4 +29,12 @@ pub fn next<'s, 'a>(r: &'s mut PostingReader<'a>) -> Yield
     let s = step_at(r.card, r.cursor);
     r.cursor = s.cursor;
     s.yielded
+}
+
+// What a reader of the question yields after n others. Its contract speaks of no reader, so whoever calls it needs no walk by hand.
+pub fn posting(card: &[u32], term: u32, from: u32, to: u32, n: usize) -> Yield
+    ensures { λ y. ⌜ yieldOf y ≡ yielded (now (card .entry)) term from to n ⌝ }
+{
+    let r = open(card, term, from, to);
+    yield_at(r.card, r.cursor, n)
 }
