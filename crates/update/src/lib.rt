@@ -43,7 +43,7 @@ fn same(a: &[u32], b: &[u32]) -> bool
         return false;
     }
     let mut ok = true;
-    let mut i = 0;
+    let mut i: usize = 0;
     while i < a.len() {
         ok = ok & (a[i] == b[i]);
         i += 1;
