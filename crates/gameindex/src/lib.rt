@@ -2,6 +2,8 @@
 ghost use mathlib.Core.Path.{_≡_};
 ghost use Rattle.card.specs.Layout.{formatNumber, formatted};
 ghost use Rattle.card.specs.Sound.{judged};
+ghost use Rattle.update.specs.Step.{step};
+ghost use Rattle.gameindex.specs.Flat.{flag, Stepped};
 
 // Formats a card; the reply is the number, 0 where it is done.
 #[no_mangle]
@@ -17,4 +19,32 @@ pub extern "C" fn gi_judge(card: &[u32]) -> u32
     ensures { λ r. ⌜ r ≡ judged (now (card .entry)) ⌝ }
 {
     card::judge(card)
+}
+
+// 1 for true, 0 for false.
+fn flag(value: bool) -> u32
+    ensures { λ r. ⌜ r ≡ flag value ⌝ }
+{
+    if value {
+        return 1;
+    }
+    0
+}
+
+// One step of a pass; the reply is the number, 0 where a write was made. The write, the old places freed and whether the pass finished are filled in.
+#[no_mangle]
+pub extern "C" fn gi_step(
+    card: &mut [u32],
+    batch: &[u32],
+    write: &mut u32,
+    freed: &mut u32,
+    finished: &mut u32,
+) -> u32
+    ensures { λ r. ⌜ Stepped r (now (write .exit)) (now (freed .exit)) (now (finished .exit)) (now (card .exit)) (step (now (card .entry)) (now (batch .entry))) ⌝ }
+{
+    let answer = update::step(card, batch);
+    *write = update::write_of(answer);
+    *freed = update::freed_of(answer);
+    *finished = flag(update::finished_of(answer));
+    update::number_of(answer)
 }
