@@ -2,6 +2,8 @@
 ghost use mathlib.Core.Path.{_≡_};
 ghost use Rattle.card.specs.Layout.{formatNumber, formatted};
 ghost use Rattle.card.specs.Sound.{judged};
+ghost use Rattle.update.specs.Step.{step};
+ghost use Rattle.gameindex.specs.Flat.{flag, Stepped, LookedUp};
 ghost use Rattle.lookup.specs.Found.{lookup};
 use lookup::LookupAnswer;
 
@@ -21,6 +23,34 @@ pub extern "C" fn gi_judge(card: &[u32]) -> u32
     card::judge(card)
 }
 
+// 1 for true, 0 for false.
+fn flag(value: bool) -> u32
+    ensures { λ r. ⌜ r ≡ flag value ⌝ }
+{
+    if value {
+        return 1;
+    }
+    0
+}
+
+// One step of a pass; the reply is the number, 0 where a write was made. The write, the old places freed and whether the pass finished are filled in.
+#[no_mangle]
+pub extern "C" fn gi_step(
+    card: &mut [u32],
+    batch: &[u32],
+    write: &mut u32,
+    freed: &mut u32,
+    finished: &mut u32,
+) -> u32
+    ensures { λ r. ⌜ Stepped r (now (write .exit)) (now (freed .exit)) (now (finished .exit)) (now (card .exit)) (step (now (card .entry)) (now (batch .entry))) ⌝ }
+{
+    let answer = update::step(card, batch);
+    *write = update::write_of(answer);
+    *freed = update::freed_of(answer);
+    *finished = flag(update::finished_of(answer));
+    update::number_of(answer)
+}
+
 // Looks a term up; the reply is the number, 0 where it is done. The count of positions and of blocks read go behind the last two references.
 #[no_mangle]
 pub extern "C" fn gi_lookup(
@@ -32,10 +62,7 @@ pub extern "C" fn gi_lookup(
     found: &mut u32,
     blocks: &mut u32,
 ) -> u32
-    ensures { λ r. ⌜ r ≡ lookup (now (card .entry)) term from to (now (answer .entry)) .number ⌝ }
-    ensures { λ r. ⌜ now (answer .exit) ≡ lookup (now (card .entry)) term from to (now (answer .entry)) .answer ⌝ }
-    ensures { λ r. ⌜ now (found .exit) ≡ lookup (now (card .entry)) term from to (now (answer .entry)) .count ⌝ }
-    ensures { λ r. ⌜ now (blocks .exit) ≡ lookup (now (card .entry)) term from to (now (answer .entry)) .blocks ⌝ }
+    ensures { λ r. ⌜ LookedUp r (now (found .exit)) (now (blocks .exit)) (now (answer .exit)) (lookup (now (card .entry)) term from to (now (answer .entry))) ⌝ }
 {
     let reply = lookup::lookup(card, term, from, to, answer);
     match reply {

@@ -7,7 +7,7 @@ ghost use Rattle.pair.specs.Rising.{same};
 ghost use Rattle.card.specs.Layout.{blockSize, oldLength};
 ghost use Rattle.card.specs.Sound.{judged};
 ghost use Rattle.update.specs.Step.{configured, step};
-ghost use Rattle.update.specs.Answer.{Answered, freedBy, configurationOf, outcome};
+ghost use Rattle.update.specs.Answer.{numberOf, writeOf, freedOf, finishedOf, Answered, freedBy, configurationOf, outcome};
 use due::Due;
 
 mod due;
@@ -35,6 +35,60 @@ pub enum StepAnswer {
     Configuration { freed: u32, finished: bool },
 }
 
+// The answer in the paper's numbers: the refusal's number, 0 for none.
+pub fn number_of(answer: StepAnswer) -> u32
+    ensures { λ r. ⌜ r ≡ numberOf answer ⌝ }
+{
+    match answer {
+        StepAnswer::Refused(number) => number,
+        StepAnswer::Block => 0,
+        StepAnswer::MapEntry => 0,
+        StepAnswer::Configuration {
+            freed: _,
+            finished: _,
+        } => 0,
+    }
+}
+
+// Which of the three writes was made, 0 for none.
+pub fn write_of(answer: StepAnswer) -> u32
+    ensures { λ r. ⌜ r ≡ writeOf answer ⌝ }
+{
+    match answer {
+        StepAnswer::Refused(_) => 0,
+        StepAnswer::Block => 1,
+        StepAnswer::MapEntry => 2,
+        StepAnswer::Configuration {
+            freed: _,
+            finished: _,
+        } => 3,
+    }
+}
+
+// How many old places were freed.
+pub fn freed_of(answer: StepAnswer) -> u32
+    ensures { λ r. ⌜ r ≡ freedOf answer ⌝ }
+{
+    match answer {
+        StepAnswer::Refused(_) => 0,
+        StepAnswer::Block => 0,
+        StepAnswer::MapEntry => 0,
+        StepAnswer::Configuration { freed, finished: _ } => freed,
+    }
+}
+
+// Whether the pass finished.
+pub fn finished_of(answer: StepAnswer) -> bool
+    ensures { λ r. ⌜ r ≡ finishedOf answer ⌝ }
+{
+    match answer {
+        StepAnswer::Refused(_) => false,
+        StepAnswer::Block => false,
+        StepAnswer::MapEntry => false,
+        StepAnswer::Configuration { freed: _, finished } => finished,
+    }
+}
+
 // Whether two lists of words are the same.
 fn same(a: &[u32], b: &[u32]) -> bool
     ensures { λ r. ⌜ r ≡ same (now (a .entry)) (now (b .entry)) ⌝ }
@@ -43,7 +97,7 @@ fn same(a: &[u32], b: &[u32]) -> bool
         return false;
     }
     let mut ok = true;
-    let mut i = 0;
+    let mut i: usize = 0;
     while i < a.len() {
         ok = ok & (a[i] == b[i]);
         i += 1;

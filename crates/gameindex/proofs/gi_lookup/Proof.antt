@@ -16,13 +16,13 @@ same-length : tie.Need-same-length
 same-length c = search needs
 
 returns : tie.Need-returns
-returns c = let a = rw (c .before .reply .given .1) at (c .before .before .before .before .before .lookup .ensures) in (a .number, (a .words, (a .count, a .blocks)))
+returns c = let a = rw (c .before .reply .given .1) at (c .before .before .before .before .before .lookup .ensures) in record { ofNumber = a .number; ofFound = a .count; ofBlocks = a .blocks; ofAnswer = a .words }
 
 same-length-2 : tie.Need-same-length-2
 same-length-2 c = search needs
 
 returns-2 : tie.Need-returns-2
-returns-2 c = let a = rw (c .before .reply2 .given .1) at (c .before .before .before .before .before .lookup .ensures) in (a .number, (a .words, (a .count, a .blocks)))
+returns-2 c = let a = rw (c .before .reply2 .given .1) at (c .before .before .before .before .before .lookup .ensures) in record { ofNumber = a .number; ofFound = a .count; ofBlocks = a .blocks; ofAnswer = a .words }
 
 pub gi-lookup-spec : {M : Type 1} → statement M
 gi-lookup-spec =
