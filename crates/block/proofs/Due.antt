@@ -11,7 +11,7 @@ use borrow.Author.Tests.{ltb-true, ltb-false, lt-ltb, le-leb}
 use Rattle.pair.specs.Rank.{term, Words, Proper}
 use Rattle.pair.specs.Rising.{Each, above, risingFrom, last}
 use Rattle.pair.proofs.Each.{Each-take}
-use Rattle.pair.proofs.Rising.{rising-take, rising-first, rising-second, rising-last, last-append}
+use Rattle.pair.proofs.Rising.{last-some, rising-take, rising-first, rising-second, rising-last, last-append}
 use Rattle.pair.proofs.Parts.{above-none}
 use Rattle.block.specs.Block.{pairs, formed, packed, blockOf, cost, fitting, due, goesOn}
 use Rattle.block.proofs.Size.{size, size-packed, size-fitting, fitting-longest, fitting-whole, fitting-length}
@@ -105,12 +105,6 @@ due-append b xs ys h =
     let enough : length xs ≤ fitting b 0 (xs ++ ys) = fitting-whole b 0 xs ys h in
     let split : fitting b 0 (xs ++ ys) ≡ length xs + (fitting b 0 (xs ++ ys) - length xs) = omega arith in
     ap (λ n. take n (xs ++ ys)) split ∙ take-append-add xs ys (fitting b 0 (xs ++ ys) - length xs)
-
--- the last of a list with an element is the same whatever stands for none
-pub last-some : (ks : List ℕ) (d e : ℕ) → 0 < length ks → last d ks ≡ last e ks
-unfolding last
-last-some [] d e h = absurd (omega arith)
-last-some (k ∷ ks) d e h = refl
 
 -- the last due pair lies above where what remains starts
 pub due-high : (b k : ℕ) (r : List ℕ) → 3 ≤ b → 0 < length r → risingFrom k r ≡ true → k ≤ last 0 (due b r)

@@ -11,6 +11,7 @@ use Rattle.pair.specs.Rank.{rank, term, position, Words, Proper}
 use Rattle.pair.specs.Rising.{Each, risingFrom}
 use Rattle.pair.proofs.Order.{rank-term-position}
 use Rattle.pair.proofs.Tests.{and-left, and-right}
+use Rattle.pair.proofs.Words.{words-cons, words-zeros}
 use Rattle.block.specs.Block.{zeros, pairsFrom, pairs, formedFrom, formed, leading, packedAfter, packed, blockOf}
 use Rattle.block.proofs.Size.{size, size-packed, length-size}
 
@@ -85,17 +86,6 @@ leading-length t (k ∷ ks) = go (leading-length t ks) (eqb (term k) t)
     go : leading t ks ≤ length ks → (s : Bool) → cond s (suc (leading t ks)) 0 ≤ suc (length ks)
     go ih true = omega arith
     go ih false = omega arith
-
-words-cons : (w : ℕ) (ws : List ℕ) → w < 4294967296 → Words ws → Words (w ∷ ws)
-unfolding Words
-words-cons w ws h hs zero = h
-words-cons w ws h hs (suc i) = hs i
-
-words-zeros : (m : ℕ) → Words (replicate m 0)
-unfolding Words
-words-zeros zero i = omega arith
-words-zeros (suc m) zero = omega arith
-words-zeros (suc m) (suc i) = words-zeros m i
 
 -- packed pairs are 32-bit words where a count of them is one
 pub words-packed : (t m : ℕ) (ks : List ℕ) → Each Proper ks → length ks < 4294967296 → Words (packedAfter t ks ++ replicate m 0)

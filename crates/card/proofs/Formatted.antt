@@ -16,7 +16,7 @@ use Rattle.card.specs.Layout.{word, boundary, entryWidth, cardLength, in
 use Rattle.card.specs.Sound.{blocksSound, firstReaches, boundaryWords, judged}
 use Rattle.card.proofs.Facts.{sound}
 use Rattle.card.proofs.Parts.{part-sets-after, word-sets-same}
-use Rattle.card.proofs.Bits.{words-sets, words-cons, words-nil}
+use Rattle.pair.proofs.Words.{words-sets, words-cons, words-nil}
 
 -- what the formatter asks for
 pub record Formattable (c : List ℕ) (b n : ℕ) : Type 0 where

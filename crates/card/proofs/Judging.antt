@@ -11,7 +11,7 @@ use lib.Dec.{ltb, leb, eqb}
 use Rattle.pair.specs.Rank.{Words}
 use Rattle.pair.specs.Rising.{risingFrom, last, any, firstOf}
 use Rattle.pair.proofs.Tests.{and-left, and-right, and-both}
-use Rattle.pair.proofs.Rising.{last-append, rising-append, rising-weaker, rising-last, rising-head, rising-tail}
+use Rattle.pair.proofs.Rising.{last-some, any-last, last-append, rising-append, rising-weaker, rising-last, rising-head, rising-tail}
 use Rattle.block.specs.Block.{pairs, formed}
 use Rattle.block.specs.Scan.{scanned}
 use Rattle.block.specs.declared.BlockScan.{BlockScan}
@@ -58,11 +58,6 @@ unfolding risingFrom
 rising-some [] k h r = absurd (omega arith)
 rising-some (x ∷ xs) k h r = rw (rising-tail x xs 0 r) (and-true (ltb k x))
 
-last-some : (xs : List ℕ) (k : ℕ) → 0 < length xs → last k xs ≡ last 0 xs
-unfolding last
-last-some [] k h = absurd (omega arith)
-last-some (x ∷ xs) k h = refl
-
 shuffle : (a b c : Bool) → (a && (b && c)) ≡ (b && (a && c))
 shuffle true b c = refl
 shuffle false true c = refl
@@ -74,7 +69,7 @@ same-scan c j k is js e f = rw (e, f)
 
 last-first : (c : List ℕ) (k i : ℕ) (is : List ℕ) → 0 < length (pairs (place c i)) → last k (pairsAt c (i ∷ is)) ≡ last (last 0 (pairs (place c i))) (pairsAt c is)
 unfolding pairsAt
-last-first c k i is some = last-append (pairs (place c i)) (pairsAt c is) k ∙ rw (last-some (pairs (place c i)) k some)
+last-first c k i is some = last-append (pairs (place c i)) (pairsAt c is) k ∙ rw (last-some (pairs (place c i)) k 0 some)
 
 module _ (c : List ℕ) (w : Words c) (k i : ℕ) (is : List ℕ) where
   -- the first of the places counts where its block is live and begins above k, and the rest then counts from its last pair
@@ -93,7 +88,7 @@ module _ (c : List ℕ) (w : Words c) (k i : ℕ) (is : List ℕ) where
           let f = and-left (formed (place c i)) (eqb (firstPair c i) (getD (pairs (place c i)) 0 0)) e in
           let some = formed-some (place c i) f in
           let r = formed-rising (place c i) (place-words c i w) f in
-          rw (rising-append (pairs (place c i)) (pairsAt c is) k, rising-some (pairs (place c i)) k some r, last-some (pairs (place c i)) k some)
+          rw (rising-append (pairs (place c i)) (pairsAt c is) k, rising-some (pairs (place c i)) k some r, last-some (pairs (place c i)) k 0 some)
           (shuffle (blocksSound c is) (ltb k (getD (pairs (place c i)) 0 0)) (risingFrom (last 0 (pairs (place c i))) (pairsAt c is)))
 
   module _ (s : BlockScan) (e : s ≡ blockScanned c i) where
@@ -158,18 +153,6 @@ unfolding segmentScanned around blocksSound pairsAt risingFrom last
 walking-end {c} {start} {len} {after} {k} {j} a h =
     let e : len - j ≡ 0 = omega arith in
     sym (a .rest ∙ rw e)
-
--- a rising list has an element above k exactly where its last is above k
-pub any-last : (xs : List ℕ) (j k : ℕ) → risingFrom j xs ≡ true → j ≤ k → any (ltb k) xs ≡ ltb k (last j xs)
-unfolding any last
-any-last [] j k r h = sym (le-ltb k j h)
-any-last (x ∷ xs) j k r h = go (ltb k x) refl (any-last xs x k (rising-tail x xs j r))
-  where
-    go : (t : Bool) → ltb k x ≡ t → (x ≤ k → any (ltb k) xs ≡ ltb k (last x xs)) → (t || any (ltb k) xs) ≡ ltb k (last x xs)
-    go true e ih =
-        let l : k < x = ltb-true k x e in
-        sym (lt-ltb k (last x xs) (omega (arith, rising-last xs x (rising-tail x xs j r))))
-    go false e ih = ih (ltb-false k x e)
 
 module _ (c : List ℕ) (w : Words c) (k i : ℕ) (is : List ℕ) where
   -- the old segment: its first block counts where it is live and reaches above k

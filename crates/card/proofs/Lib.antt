@@ -1,4 +1,3 @@
-pub mod Bits
 pub mod Circle
 pub mod Facts
 pub mod Formatted

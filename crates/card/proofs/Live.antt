@@ -17,7 +17,7 @@ use Rattle.block.specs.Block.{pairs, formed}
 use Rattle.block.proofs.Reading.{formed-proper, formed-some}
 use Rattle.card.specs.Layout.{blockSize, boundary, entryWidth, placeAt, firstPair, place, oldPlaces, newPlaces, pairsAt, live}
 use Rattle.card.specs.Sound.{blocksSound, firstReaches}
-use Rattle.card.proofs.Bits.{words-take, words-drop}
+use Rattle.pair.proofs.Words.{words-take, words-drop}
 use Rattle.card.proofs.Facts.{Facts}
 
 -- The pairs at places in two groups.

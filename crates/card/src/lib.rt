@@ -12,9 +12,11 @@ use pair::Pair;
 
 const FORMAT: u32 = 1;
 
-const CONFIGURATION_WORDS: usize = 8;
+// The words before the map.
+pub const CONFIGURATION_WORDS: usize = 8;
 
-const ENTRY_WIDTH: usize = 2;
+// The words of a map entry.
+pub const ENTRY_WIDTH: usize = 2;
 
 const BLOCK_SIZE_LEAST: u32 = 8;
 

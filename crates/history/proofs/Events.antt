@@ -10,7 +10,7 @@ use lib.Dec.{eqb}
 use borrow.Author.Tests.{eqb-true}
 use Rattle.pair.specs.Rank.{Words}
 use Rattle.card.specs.Layout.{blockSize, entryWidth, entryAt, placeAt, formatNumber, formatted}
-use Rattle.card.proofs.Bits.{words-take, words-append, words-zeros, words-sets}
+use Rattle.pair.proofs.Words.{words-take, words-append, words-zeros, words-sets}
 use Rattle.card.proofs.Facts.{Facts, facts}
 use Rattle.card.proofs.Formatted.{formatted-refused}
 use Rattle.update.specs.Step.{remains, duePlace, nextWrite, written, stepNumber, taken, step}

@@ -1,7 +1,7 @@
 -- The blocks that a lookup reads in a segment are at most one more than those that hold a live posting in range.
-use Prim.Native.Nat.{ℕ, suc, _+_, _-_, _≤_, _<_}
+use Prim.Native.Nat.{ℕ, suc, _+_, _-_, _≤_, _<_, zero-le}
 use native.Mathlib.Omega.{arith}
-use mathlib.Core.Path.{_≡_, refl, sym}
+use mathlib.Core.Path.{_≡_, refl, sym, _∙_}
 use mathlib.Core.Bool.{Bool, true, false, cond, _&&_, _||_, true≢false}
 use mathlib.Core.List.{List, [], _∷_}
 use lib.ListN.{length, getD}
@@ -9,23 +9,13 @@ use lib.Dec.{ltb, leb, eqb}
 use borrow.Author.Tests.{ltb-true, lt-ltb, leb-false, le-leb, eqb-true}
 use Rattle.pair.specs.Rank.{rank}
 use Rattle.pair.specs.Rising.{risingFrom, last, any}
-use Rattle.pair.proofs.Rising.{rising-head, rising-tail, rising-last, rising-first, rising-second}
+use Rattle.pair.proofs.Rising.{any-last, rising-head, rising-tail, rising-last, rising-first, rising-second}
 use Rattle.pair.proofs.Tests.{and-left, and-right}
 use Rattle.block.specs.Block.{pairs, formed}
 use Rattle.block.proofs.Reading.{formed-some}
 use Rattle.card.specs.Layout.{firstPair, place, pairsAt}
 use Rattle.card.specs.Sound.{blocksSound, firstReaches}
 use Rattle.lookup.specs.Found.{mappedTo, span, holders}
-
--- a rising list with an element above k ends above k
-pub any-last : (xs : List ℕ) (j k : ℕ) → risingFrom j xs ≡ true → any (ltb k) xs ≡ true → k < last j xs
-unfolding any last
-any-last [] j k r h = absurd (true≢false (sym h))
-any-last (x ∷ xs) j k r h = go (ltb k x) refl h (any-last xs x k (rising-tail x xs j r))
-  where
-    go : (s : Bool) → ltb k x ≡ s → (s || any (ltb k) xs) ≡ true → (any (ltb k) xs ≡ true → k < last x xs) → k < last x xs
-    go true e g ih = omega (arith, ltb-true k x e, rising-last xs x (rising-tail x xs j r))
-    go false e g ih = ih g
 
 -- the first of a rising list lies above its start and at most at its end
 first-between : (ks : List ℕ) (j : ℕ) → 0 < length ks → risingFrom j ks ≡ true → (j < getD ks 0 0) × (getD ks 0 0 ≤ last j ks)
@@ -124,7 +114,7 @@ span-bound c k t a z [] s r h = omega arith
 span-bound c k t a z (i ∷ is) s r h =
     let f = first c 0 i is s r in
     let m : ℕ = last 0 (pairs (place c i)) in
-    let reach : k < m = any-last (pairs (place c i)) 0 k (f .rises) h in
+    let reach : k < m = ltb-true k m (sym (any-last (pairs (place c i)) 0 k (f .rises) zero-le) ∙ h) in
     go f (mappedTo-rest c k (rank t a) (rank t z) m is (f .sound) (f .behind) (omega arith))
     (mappedTo-above c k (rank t a) (rank t z) m is (f .sound) (f .behind) (omega arith))
     (leb (firstPair c i) (rank t z)) (leb (firstPair c i) (rank t a)) refl refl

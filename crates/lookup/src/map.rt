@@ -5,13 +5,11 @@ ghost use Rattle.card.specs.Layout.{placeCount, firstPair, around};
 ghost use Rattle.lookup.specs.Found.{mappedTo, questionNumber};
 ghost use Rattle.card.specs.Scan.{Shaped};
 ghost use Rattle.lookup.specs.Segment.{Segment, spanned, LiveAfter, Opened};
+use card::CONFIGURATION_WORDS;
+use card::ENTRY_WIDTH;
 use crate::walk::Stretch;
 use crate::walk::Walk;
 use pair::Pair;
-
-const CONFIGURATION_WORDS: usize = 8;
-
-const ENTRY_WIDTH: usize = 2;
 
 // The rank of a place's map pair.
 fn first_pair(card: &[u32], place: usize) -> u64

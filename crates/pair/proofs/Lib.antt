@@ -7,3 +7,4 @@ pub mod Rising
 pub mod Search
 pub mod Sets
 pub mod Tests
+pub mod Words

@@ -1,14 +1,14 @@
 -- Rising lists: where they start, where they end, and what keeps them rising.
 use Prim.Native.Nat.{ℕ, _≤_, _<_}
 use mathlib.Core.Path.{_≡_, refl, sym}
-use mathlib.Core.Bool.{Bool, true, false, cond, _&&_, and-assoc}
+use mathlib.Core.Bool.{Bool, true, false, cond, _&&_, _||_, and-assoc}
 use mathlib.Core.Logic.{_≢_}
 use mathlib.Core.List.{List, [], _∷_, _++_}
 use lib.ListN.{length, take, drop, take-append-drop}
 use lib.Dec.{ltb, eqb}
 use native.Mathlib.Omega.{arith}
-use borrow.Author.Tests.{ltb-true, ltb-false, eqb-false, lt-ltb}
-use Rattle.pair.specs.Rising.{Each, keep, above, risingFrom, insert, last}
+use borrow.Author.Tests.{ltb-true, ltb-false, eqb-false, lt-ltb, le-ltb}
+use Rattle.pair.specs.Rising.{Each, keep, above, risingFrom, insert, last, any}
 use Rattle.pair.proofs.Tests.{and-left, and-right, and-both}
 
 -- a rising list begins with a number above its start, and goes on rising from there
@@ -161,3 +161,21 @@ pub rises-rising : (xs : List ℕ) (k : ℕ) → rises xs ≡ true → Each (λ 
 unfolding rises risingFrom
 rises-rising [] k r a = refl
 rises-rising (x ∷ xs) k r a = rising-cons x xs k (a .0) r
+
+-- of a list that is not empty the last element does not depend on what stands for none
+pub last-some : (xs : List ℕ) (d e : ℕ) → 0 < length xs → last d xs ≡ last e xs
+unfolding last
+last-some [] d e h = absurd (omega arith)
+last-some (x ∷ xs) d e h = refl
+
+-- a rising list has an element above k exactly where its last is above k
+pub any-last : (xs : List ℕ) (j k : ℕ) → risingFrom j xs ≡ true → j ≤ k → any (ltb k) xs ≡ ltb k (last j xs)
+unfolding any last
+any-last [] j k r h = sym (le-ltb k j h)
+any-last (x ∷ xs) j k r h = go (ltb k x) refl (any-last xs x k (rising-tail x xs j r))
+  where
+    go : (t : Bool) → ltb k x ≡ t → (x ≤ k → any (ltb k) xs ≡ ltb k (last x xs)) → (t || any (ltb k) xs) ≡ ltb k (last x xs)
+    go true e ih =
+        let l : k < x = ltb-true k x e in
+        sym (lt-ltb k (last x xs) (omega (arith, rising-last xs x (rising-tail x xs j r))))
+    go false e ih = ih (ltb-false k x e)

@@ -11,10 +11,10 @@ use Rattle.pair.specs.Rank.{Proper}
 use Rattle.pair.specs.Rising.{Each, above, atMost, risingFrom, last}
 use Rattle.pair.proofs.Tests.{and-right}
 use Rattle.pair.proofs.Each.{Each-last-cons}
-use Rattle.pair.proofs.Rising.{rising-second, rising-weaker, last-append}
+use Rattle.pair.proofs.Rising.{last-some, rising-second, rising-weaker, last-append}
 use Rattle.pair.proofs.Parts.{above-all, above-further}
 use Rattle.block.specs.Block.{pairs, due, goesOn}
-use Rattle.block.proofs.Due.{goesOn-some, last-some, due-high, due-some, due-whole, proper-due}
+use Rattle.block.proofs.Due.{goesOn-some, due-high, due-some, due-whole, proper-due}
 use Rattle.card.specs.Layout.{blockSize, placeCount, oldStart, oldLength, boundary, around, oldPlaces, newPlaces, pairsAt, live}
 use Rattle.card.specs.Sound.{blocksSound}
 use Rattle.card.proofs.Circle.{around-drop, length-around}

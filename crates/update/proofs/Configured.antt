@@ -15,7 +15,7 @@ use Rattle.pair.proofs.Each.{Each-all}
 use Rattle.pair.proofs.Order.{rank-term-position, position-word}
 use Rattle.card.specs.Layout.{word, blockSize, placeCount, oldStart, oldLength, newLength, boundary, entryWidth, entryAt, placeAt, place, around, oldPlaces, newPlaces, pairsAt, live}
 use Rattle.card.specs.Sound.{blocksSound, firstReaches, boundaryWords, judged}
-use Rattle.card.proofs.Bits.{words-sets, words-cons, words-nil}
+use Rattle.pair.proofs.Words.{words-sets, words-cons, words-nil}
 use Rattle.card.proofs.Circle.{around-mod, around-mod-add}
 use Rattle.card.proofs.Facts.{Facts, sound}
 use Rattle.card.proofs.Frame.{SameAt, pairsAt-alike, blocksSound-alike, firstReaches-alike}

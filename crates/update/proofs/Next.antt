@@ -9,10 +9,10 @@ use lib.Dec.{ltb, eqb·suc-zero}
 use Rattle.pair.specs.Rank.{Words, Proper}
 use Rattle.pair.specs.Rising.{above, risingFrom, last, same}
 use Rattle.pair.proofs.Each.{Each-keep}
-use Rattle.pair.proofs.Rising.{rising-above, rises-from}
+use Rattle.pair.proofs.Rising.{last-some, rising-above, rises-from}
 use Rattle.pair.proofs.Parts.{above-append, above-above, above-further, above-none, above-take, above-atMost-none}
 use Rattle.block.specs.Block.{due, goesOn, fitting}
-use Rattle.block.proofs.Due.{last-some, rising-due}
+use Rattle.block.proofs.Due.{rising-due}
 use Rattle.batch.specs.Batch.{Update, updates, applied, batchNumber}
 use Rattle.batch.proofs.InOrder.{rising-batch, proper-batch}
 use Rattle.batch.proofs.Local.{above-applied}

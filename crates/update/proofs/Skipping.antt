@@ -12,7 +12,7 @@ use Rattle.pair.specs.Rank.{Words}
 use Rattle.pair.specs.Rising.{keep, above, risingFrom, last, any}
 use Rattle.pair.proofs.Tests.{and-left, and-right}
 use Rattle.pair.proofs.Parts.{above-all}
-use Rattle.pair.proofs.Rising.{rising-cons}
+use Rattle.pair.proofs.Rising.{any-last, rising-cons}
 use Rattle.block.specs.Block.{pairs, formed}
 use Rattle.block.specs.Scan.{scanned}
 use Rattle.block.proofs.Reading.{formed-rising}
@@ -20,7 +20,6 @@ use Rattle.card.specs.Layout.{blockSize, placeCount, oldStart, oldLength, entry
 use Rattle.card.specs.Sound.{blocksSound, judged}
 use Rattle.card.specs.Scan.{Shaped}
 use Rattle.card.proofs.Facts.{Facts}
-use Rattle.card.proofs.Judging.{any-last}
 use Rattle.card.proofs.Live.{place-words}
 use Rattle.update.specs.declared.old.OldCursor.{OldCursor}
 use Rattle.update.specs.Old.{coming, pending, Reading, Stands, Advanced, Skipped, started}

@@ -16,7 +16,7 @@ use Rattle.pair.proofs.Each.{Each-getD}
 use Rattle.pair.proofs.Order.{position-word}
 use Rattle.block.proofs.Due.{length-dueBlock, words-dueBlock}
 use Rattle.card.specs.Layout.{blockSize, placeCount, entryWidth, entryAt, placeAt, place}
-use Rattle.card.proofs.Bits.{words-sets, words-cons, words-nil}
+use Rattle.pair.proofs.Words.{words-sets, words-cons, words-nil}
 use Rattle.card.proofs.Facts.{Facts}
 use Rattle.card.proofs.Frame.{Alike}
 use Rattle.card.proofs.Free.{due-free, alike-place, alike-entry}

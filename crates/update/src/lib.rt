@@ -8,15 +8,13 @@ ghost use Rattle.card.specs.Layout.{blockSize, oldLength};
 ghost use Rattle.card.specs.Sound.{judged};
 ghost use Rattle.update.specs.Step.{configured, step};
 ghost use Rattle.update.specs.Answer.{numberOf, writeOf, freedOf, finishedOf, Answered, freedBy, configurationOf, outcome};
+use card::CONFIGURATION_WORDS;
+use card::ENTRY_WIDTH;
 use due::Due;
 
 mod due;
 mod old;
 mod packing;
-
-const CONFIGURATION_WORDS: usize = 8;
-
-const ENTRY_WIDTH: usize = 2;
 
 const BLOCK_MOST: usize = 1024;
 

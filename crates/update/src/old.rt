@@ -9,11 +9,9 @@ ghost use Rattle.card.specs.Scan.{Shaped};
 ghost use Rattle.card.specs.Sound.{judged};
 ghost use Rattle.update.specs.Old.{EntryAt, entryAtWords, Stands, Advanced, Skipped, started};
 ghost use Rattle.update.specs.Step.{spent};
+use card::CONFIGURATION_WORDS;
+use card::ENTRY_WIDTH;
 use pair::Pair;
-
-const CONFIGURATION_WORDS: usize = 8;
-
-const ENTRY_WIDTH: usize = 2;
 
 // A place in the old segment: the next place and how many are left; the next word of the block in hand and its end; the term in
 // hand and how many of its positions are still to come; the rank of the pair in hand, 0 for none.
