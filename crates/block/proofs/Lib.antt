@@ -1,7 +1,9 @@
 pub mod Due
+pub mod Entries
 pub mod Filling
 pub mod Packing
 pub mod Reading
 pub mod Scanning
+pub mod Seeking
 pub mod Size
 pub mod Walk

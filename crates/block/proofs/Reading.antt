@@ -38,7 +38,7 @@ formedFrom-proper (a ∷ b ∷ q ∷ ws) t zero p w h g f =
         ih (λ l. let n : (a ≡ 0 → ⊥) = eqb-false a 0 e in omega arith)
         (and-right (ltb t a && ltb 0 b) (formedFrom (q ∷ ws) a b 0) f)
 
-formedFrom-rising : (ws : List ℕ) (t n p : ℕ) → Words ws → p < 4294967296 → formedFrom ws t n p ≡ true →
+pub formedFrom-rising : (ws : List ℕ) (t n p : ℕ) → Words ws → p < 4294967296 → formedFrom ws t n p ≡ true →
     risingFrom (rank t p) (pairsFrom ws t n) ≡ true
 unfolding formedFrom pairsFrom Words risingFrom
 formedFrom-rising [] t n p w h f = refl

@@ -4,6 +4,7 @@ use mathlib.Core.Path.{_≡_}
 use mathlib.Core.Bool.{Bool, cond}
 use mathlib.Core.List.{List}
 use Rattle.update.specs.Step.{Step}
+use Rattle.lookup.specs.Found.{Lookup}
 
 abbrev pub flag : Bool → ℕ
 flag b = cond b 1 0
@@ -15,3 +16,10 @@ pub record Stepped (number write freed finished : ℕ) (card : List ℕ) (s : St
   pub ofFreed : freed ≡ s .freed
   pub ofFinished : finished ≡ flag (s .finished)
   pub ofCard : card ≡ s .card
+
+-- the reply, the numbers filled in and the answer words left are those of a lookup
+pub record LookedUp (number found blocks : ℕ) (answer : List ℕ) (l : Lookup) : Type 0 where
+  pub ofNumber : number ≡ l .number
+  pub ofFound : found ≡ l .count
+  pub ofBlocks : blocks ≡ l .blocks
+  pub ofAnswer : answer ≡ l .answer

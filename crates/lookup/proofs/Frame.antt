@@ -10,7 +10,8 @@ use Rattle.pair.specs.Rising.{Each, above, within}
 use Rattle.block.specs.Block.{pairs}
 use Rattle.card.specs.Layout.{boundary, entryWidth, placeAt, place, oldPlaces, newPlaces}
 use Rattle.card.proofs.Frame.{SameAt, Alike, word-alike, firstPair-alike, boundary-alike, oldPlaces-alike, newPlaces-alike, live-alike, judged-alike}
-use Rattle.lookup.specs.Found.{found, mappedTo, span, blocksRead, questionNumber, lookupNumber, lookup, runAt, run, wordsBefore, runStartAt, runStart}
+use Rattle.block.specs.Wanted.{wordsBefore}
+use Rattle.lookup.specs.Found.{found, mappedTo, span, blocksRead, questionNumber, lookupNumber, lookup, runAt, run, runStartAt, runStart}
 
 mappedTo-alike : (c d : List ℕ) (k : ℕ) (is : List ℕ) → Each (SameAt c d) is → mappedTo d k is ≡ mappedTo c k is
 unfolding mappedTo

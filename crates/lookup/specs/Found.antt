@@ -8,6 +8,7 @@ use lib.Dec.{ltb, leb, eqb}
 use Rattle.pair.specs.Rank.{rank, term, position}
 use Rattle.pair.specs.Rising.{above, within, any, firstOf}
 use Rattle.block.specs.Block.{pairs}
+use Rattle.block.specs.Wanted.{wordsBefore}
 use Rattle.card.specs.Layout.{boundary, entryWidth, placeAt, firstPair, place, oldPlaces, newPlaces, live}
 use Rattle.card.specs.Sound.{judged}
 
@@ -66,14 +67,6 @@ run c t a z =
     cond (eqb (questionNumber c t a z) 0)
     (runAt c 0 (rank t a) (rank t z) (newPlaces c) (runAt c (boundary c) (rank t a) (rank t z) (oldPlaces c) []))
     []
-
--- how many words stand before the position of the first pair that passes the test, in words read as by pairsFrom
-unfoldable pub wordsBefore : (ℕ → Bool) → List ℕ → ℕ → ℕ → ℕ
-wordsBefore f [] t n = 0
-wordsBefore f (p ∷ ws) t (suc n) = cond (f (rank t p)) 0 (suc (wordsBefore f ws t n))
-wordsBefore f (a ∷ []) t zero = 0
-wordsBefore f (a ∷ b ∷ []) t zero = 0
-wordsBefore f (a ∷ b ∷ p ∷ ws) t zero = cond (eqb a 0) 0 (suc (suc (wordsBefore f (p ∷ ws) a b)))
 
 -- where in the card the run view's part starts
 unfoldable pub runStartAt : List ℕ → ℕ → ℕ → ℕ → List ℕ → ℕ → ℕ

@@ -1,1 +1,76 @@
-// The definitions of this crate; its code follows.
+// Looking up a term in a range of positions.
+ghost use mathlib.Core.Path.{_≡_};
+ghost use Prim.Native.Nat.{_+_, _*_};
+ghost use Rattle.lookup.specs.Found.{questionNumber, run, runStart};
+ghost use Rattle.lookup.specs.Answer.{Answered};
+use crate::map::opened;
+use crate::taking::copy_ahead;
+use crate::taking::count_ahead;
+use crate::walk::next_run;
+
+pub mod map; // the blocks that are read, found by the map
+pub mod reading; // the posting reader's cursor, one posting after another
+pub mod taking; // the wanted positions of a walk counted, and moved to answer words
+pub mod walk; // the blocks that are read, one run of wanted positions after another
+
+// A term is looked up, a position is where the range starts: neither is 0.
+const NO_QUESTION: u32 = 9;
+
+const TOO_FEW_WORDS: u32 = 10;
+
+// A lookup's answer: the number of a refusal, or how many positions were found and how many blocks were read.
+pub enum LookupAnswer {
+    Refused(u32),
+    Found { count: u32, blocks: u32 },
+}
+
+// The number of a question that is refused, 0 where it is not: the run view's, and the lookup's but for its answer words.
+pub fn run_view_number(card: &[u32], term: u32, from: u32, to: u32) -> u32
+    ensures { λ r. ⌜ r ≡ questionNumber (now (card .entry)) term from to ⌝ }
+{
+    let number = card::judge(card);
+    if number != 0 {
+        return number;
+    }
+    if (term == 0) | (from == 0) | (to < from) {
+        return NO_QUESTION;
+    }
+    0
+}
+
+// Writes the live positions of the term, from one to another, into the first answer words.
+pub fn lookup(card: &[u32], term: u32, from: u32, to: u32, answer: &mut [u32]) -> LookupAnswer
+    ensures { λ r. ⌜ Answered (now (card .entry)) term from to (now (answer .entry)) r (now (answer .exit)) ⌝ }
+{
+    let number = run_view_number(card, term, from, to);
+    if number != 0 {
+        return LookupAnswer::Refused(number);
+    }
+    let walk = opened(card, term, from, to);
+    let count = count_ahead(card, walk);
+    if answer.len() < count {
+        return LookupAnswer::Refused(TOO_FEW_WORDS);
+    }
+    copy_ahead(card, walk, answer);
+    let new = walk.new;
+    let old = walk.old;
+    let blocks = new.blocks + old.blocks;
+    LookupAnswer::Found {
+        count: count as u32,
+        blocks: blocks as u32,
+    }
+}
+
+// The wanted live positions of the first block that has any, new segment before old, as a part of the card; the empty part where there is none.
+pub fn run_view(card: &[u32], term: u32, from: u32, to: u32) -> &[u32]
+    ensures { λ r. ⌜ now r ≡ run (now (card .entry)) term from to ⌝ }
+    ensures { λ r. ⌜ r .ptr ≡ (card .entry .ptr .0, runStart (now (card .entry)) term from to * 4 + card .entry .ptr .1) ⌝ }
+{
+    if run_view_number(card, term, from, to) != 0 {
+        return &card[0..0];
+    }
+    let found = next_run(card, opened(card, term, from, to));
+    let start = found.start;
+    let end = start + found.len;
+    &card[start..end]
+}

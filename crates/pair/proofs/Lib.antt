@@ -4,5 +4,6 @@ pub mod Keep
 pub mod Order
 pub mod Parts
 pub mod Rising
+pub mod Search
 pub mod Sets
 pub mod Tests

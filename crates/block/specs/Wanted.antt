@@ -1,0 +1,44 @@
+-- The wanted positions of a term: those above a, at most z.
+use Prim.Native.Nat.{ℕ, zero, suc, _+_, _≤_, _<_}
+use mathlib.Core.Path.{_≡_}
+use mathlib.Core.Bool.{Bool, true, false, cond, _&&_}
+use mathlib.Core.List.{List, [], _∷_, map}
+use lib.ListN.{length, take, drop}
+use lib.Dec.{ltb, leb, eqb}
+use Rattle.pair.specs.Rank.{rank, position}
+use Rattle.pair.specs.Rising.{keep, atMost, risingFrom}
+use Rattle.block.specs.Block.{pairs, formed}
+use Rattle.block.specs.declared.wanted.Part.{Part}
+
+-- the test of a pair: of the term t, with a position above a and at most z
+abbrev pub isWanted : ℕ → ℕ → ℕ → ℕ → Bool
+isWanted t a z x = ltb (rank t a) x && leb x (rank t z)
+
+-- the part's words
+abbrev pub partOf : List ℕ → Part → List ℕ
+partOf ws r = take (r .len) (drop (r .start) ws)
+
+-- how many words stand before the position of the first pair that passes the test, in words read as by pairsFrom
+unfoldable pub wordsBefore : (ℕ → Bool) → List ℕ → ℕ → ℕ → ℕ
+wordsBefore f [] t n = 0
+wordsBefore f (p ∷ ws) t (suc n) = cond (f (rank t p)) 0 (suc (wordsBefore f ws t n))
+wordsBefore f (a ∷ []) t zero = 0
+wordsBefore f (a ∷ b ∷ []) t zero = 0
+wordsBefore f (a ∷ b ∷ p ∷ ws) t zero = cond (eqb a 0) 0 (suc (suc (wordsBefore f (p ∷ ws) a b)))
+
+-- of rising positions, r is how many are at most b; of others it is at most how many there are
+pub record UpTo (ps : List ℕ) (b r : ℕ) : Type 0 where
+  pub inside : r ≤ length ps
+  pub count : risingFrom 0 ps ≡ true → r ≡ length (atMost b ps)
+
+-- of rising positions, the part has the wanted ones, and as many stand before it as are at most a
+pub record EntryPart (ps : List ℕ) (a z : ℕ) (r : Part) : Type 0 where
+  pub inside : r .start + r .len ≤ length ps
+  pub positions : risingFrom 0 ps ≡ true → partOf ps r ≡ keep (λ p. ltb a p && leb p z) ps
+  pub before : risingFrom 0 ps ≡ true → r .start ≡ length (atMost a ps)
+
+-- of a live block, the part has the wanted positions of the term t, and starts where the first of them stands
+pub record BlockPart (ws : List ℕ) (t a z : ℕ) (r : Part) : Type 0 where
+  pub inside : r .start + r .len ≤ length ws
+  pub positions : formed ws ≡ true → partOf ws r ≡ map position (keep (isWanted t a z) (pairs ws))
+  pub before : formed ws ≡ true → 0 < r .len → r .start ≡ wordsBefore (isWanted t a z) ws 0 0

@@ -1,0 +1,90 @@
+-- What a lookup and a run view answer, refused or not.
+use Prim.Native.Nat.{ℕ, _+_, _*_, _-_, _≤_, _<_}
+use native.Mathlib.Omega.{arith}
+use mathlib.Core.Path.{_≡_, refl, sym, ap, _∙_}
+use mathlib.Core.Bool.{Bool, true, false, cond, _||_, not}
+use mathlib.Core.List.{List, []}
+use borrow.Author.Tests.{eq-eqb, ne-eqb, lt-ltb, le-ltb}
+use lib.ListN.{length, take, drop}
+use lib.Seq.{sets}
+use lib.Dec.{ltb, eqb}
+use Rattle.pair.specs.Rising.{firstOf}
+use Rattle.card.specs.Sound.{judged}
+use Rattle.lookup.specs.declared.walk.Walk.{Walk}
+use Rattle.lookup.specs.declared.walk.WalkRun.{WalkRun}
+use Rattle.lookup.specs.declared.LookupAnswer.{LookupAnswer}
+use Rattle.lookup.specs.declared.LookupAnswer.the-variants.{Refused, Found}
+use Rattle.lookup.specs.Answer.{Answered}
+use Rattle.lookup.specs.Found.{found, blocksRead, questionNumber, lookupNumber, lookup, run, runStart}
+use Rattle.lookup.specs.Segment.{Opened}
+use Rattle.lookup.specs.Walk.{ahead, blocksOf, Next}
+use Rattle.lookup.proofs.Answers.{lookup-found, lookup-refused}
+
+-- the question's number
+pub question-refused : (c : List ℕ) (t a z n : ℕ) → n ≡ judged c → (n ≡ 0 → ⊥) → n ≡ questionNumber c t a z
+unfolding questionNumber firstOf
+question-refused c t a z n e h = rw (ne-eqb (judged c) 0 (λ q. h (e ∙ q))) e
+
+pub question-none : (c : List ℕ) (t a z n : ℕ) → n ≡ judged c → n ≡ 0 → ((eqb t 0 || eqb a 0) || ltb z a) ≡ true → 9 ≡ questionNumber c t a z
+unfolding questionNumber firstOf
+question-none c t a z n e h q = rw (eq-eqb (judged c) 0 (sym e ∙ h), q)
+
+pub question-asked : (c : List ℕ) (t a z n : ℕ) → n ≡ judged c → n ≡ 0 → ((eqb t 0 || eqb a 0) || ltb z a) ≡ false → 0 ≡ questionNumber c t a z
+unfolding questionNumber firstOf
+question-asked c t a z n e h q = rw (eq-eqb (judged c) 0 (sym e ∙ h), q)
+
+-- the lookup's number
+number-question : (c : List ℕ) (t a z : ℕ) (ans : List ℕ) (n : ℕ) → n ≡ questionNumber c t a z → (n ≡ 0 → ⊥) → lookupNumber c t a z ans ≡ n
+unfolding lookupNumber firstOf
+number-question c t a z ans n e h = rw (ne-eqb (questionNumber c t a z) 0 (λ q. h (e ∙ q))) (sym e)
+
+number-short : (c : List ℕ) (t a z : ℕ) (ans : List ℕ) → questionNumber c t a z ≡ 0 → length ans < length (found c t a z) → lookupNumber c t a z ans ≡ 10
+unfolding lookupNumber firstOf
+number-short c t a z ans e l = rw (eq-eqb (questionNumber c t a z) 0 e, lt-ltb (length ans) (length (found c t a z)) l)
+
+number-none : (c : List ℕ) (t a z : ℕ) (ans : List ℕ) → questionNumber c t a z ≡ 0 → length (found c t a z) ≤ length ans → lookupNumber c t a z ans ≡ 0
+unfolding lookupNumber firstOf
+number-none c t a z ans e l = rw (eq-eqb (questionNumber c t a z) 0 e, le-ltb (length ans) (length (found c t a z)) l)
+
+module _ {c : List ℕ} {t a z : ℕ} {ans : List ℕ} where
+  -- a lookup refused for its question
+  pub answered-refused : {n : ℕ} → n ≡ questionNumber c t a z → (n ≡ 0 → ⊥) → Answered c t a z ans (Refused n) ans
+  answered-refused {n} e h =
+      let k : lookupNumber c t a z ans ≡ n = number-question c t a z ans n e h in
+      let l = lookup-refused c t a z ans (rw k (ne-eqb n 0 h)) in
+      record { number = rw (l, k); count = rw l; blocks = rw l; words = rw l }
+
+  -- for its answer words
+  pub answered-short :
+      {n : ℕ} {w : Walk} → n ≡ questionNumber c t a z → n ≡ 0 → Opened c t a z w → {m : ℕ} → m ≡ length (ahead c w) → length ans < m →
+      Answered c t a z ans (Refused 10) ans
+  answered-short {n} {w} e h o {m} f l =
+      let short : length ans < length (found c t a z) = rw (← o .found) (omega arith) in
+      let k : lookupNumber c t a z ans ≡ 10 = number-short c t a z ans (sym e ∙ h) short in
+      let l = lookup-refused c t a z ans (rw k refl) in
+      record { number = rw (l, k); count = rw l; blocks = rw l; words = rw l }
+
+  -- and one that is not refused
+  pub answered-found :
+      {n : ℕ} {w : Walk} → n ≡ questionNumber c t a z → n ≡ 0 → Opened c t a z w → {m : ℕ} → m ≡ length (ahead c w) → m ≤ length ans →
+      {after : List ℕ} → after ≡ sets ans 0 (ahead c w) → Answered c t a z ans (Found m (blocksOf w)) after
+  answered-found {n} {w} e h o {m} f l {after} s =
+      let room : length (found c t a z) ≤ length ans = rw (← o .found) (omega arith) in
+      let k : lookupNumber c t a z ans ≡ 0 = number-none c t a z ans (sym e ∙ h) room in
+      let l = lookup-found c t a z ans k in
+      record { number = rw l; count = rw (l, f, o .found); blocks = rw l (o .blocks); words = rw (l, s, o .found) }
+
+-- the run view: its contents and where it starts
+pub run-refused :
+    (c : List ℕ) (t a z n : ℕ) (p : ℕ × ℕ) → n ≡ questionNumber c t a z → (n ≡ 0 → ⊥) →
+    (_≡_ {A = List ℕ} [] (run c t a z)) × (_≡_ {A = ℕ × ℕ} (p .0, 0 * 4 + p .1) (p .0, runStart c t a z * 4 + p .1))
+unfolding run runStart
+run-refused c t a z n p e h = let f = ne-eqb (questionNumber c t a z) 0 (λ q. h (e ∙ q)) in (rw f, rw f)
+
+pub run-found :
+    {c : List ℕ} {t a z : ℕ} {w : Walk} {r : WalkRun} (p : ℕ × ℕ) → Opened c t a z w → Next c w r →
+    (take (r .start + r .len - r .start) (drop (r .start) c) ≡ run c t a z)
+    × (_≡_ {A = ℕ × ℕ} (p .0, r .start * 4 + p .1) (p .0, runStart c t a z * 4 + p .1))
+run-found {c} {t} {a} {z} {w} {r} p o x =
+    let n : r .start + r .len - r .start ≡ r .len = omega arith in
+    (rw n (x .run (o .ready) ∙ o .run), ap (λ k. (p .0, k * 4 + p .1)) (x .starts (o .ready) ∙ o .start))

@@ -1,0 +1,121 @@
+-- The wanted positions ahead of a walk: counted, and moved to answer words.
+use Prim.Native.Nat.{ℕ, zero, suc, _+_, _-_, _≤_, _<_, zero-le}
+use native.Mathlib.Nat.{add-zero}
+use native.Mathlib.Numerals.{add-one}
+use native.Mathlib.Omega.{arith}
+use mathlib.Core.Path.{_≡_, refl, sym, ap, _∙_}
+use mathlib.Core.List.{List, [], _∷_, _++_, append-assoc, append-nil}
+use lib.ListN.{length, take, drop, getD, set, length-append, length-take, length-drop}
+use lib.Seq.{sets, take-suc, getD-drop, length-sets}
+use Rattle.lookup.specs.declared.walk.Walk.{Walk}
+use Rattle.lookup.specs.declared.walk.WalkRun.{WalkRun}
+use Rattle.lookup.specs.Walk.{ahead, blocksOf, ReadyWalk, Next}
+
+length-part : (c : List ℕ) (a n : ℕ) → a + n ≤ length c → length (take n (drop a c)) ≡ n
+length-part c a n h = rw (length-take, length-drop) (omega arith)
+
+-- n positions of those ahead of the walk v are counted, and the others are ahead of w
+pub record Counting (c : List ℕ) (v w : Walk) (n : ℕ) : Type 0 where
+  pub ready : ReadyWalk c w
+  pub total : length (ahead c v) ≡ n + length (ahead c w)
+
+pub counting-start : {c : List ℕ} {v : Walk} → ReadyWalk c v → Counting c v v 0
+counting-start r = record { ready = r; total = omega arith }
+
+pub counting-turn : {c : List ℕ} {v w : Walk} {n : ℕ} {r : WalkRun} → Counting c v w n → Next c w r → Counting c v (r .rest) (n + r .len)
+counting-turn {c} {v} {w} {n} {r} k x =
+    record {
+      ready = x .ready (k .ready);
+      total =
+          omega (
+            arith,
+            k .total,
+            ap length (x .rest (k .ready)) ∙ length-append (take (r .len) (drop (r .start) c)) (ahead c (r .rest)),
+            length-part c (r .start) (r .len) (x .inside),
+          );
+    }
+
+pub counting-end : {c : List ℕ} {v w : Walk} {n : ℕ} {r : WalkRun} → Counting c v w n → Next c w r → r .len ≡ 0 → n ≡ length (ahead c v)
+counting-end k x e = omega (arith, k .total, ap length (x .none (k .ready) e))
+
+-- storing one list after another
+sets-append : (xs ys l : List ℕ) (p : ℕ) → sets l p (xs ++ ys) ≡ sets (sets l p xs) (p + length xs) ys
+sets-append [] ys l p = rw add-zero
+sets-append (x ∷ xs) ys l p =
+    sets-append xs ys (set l p x) (suc p) ∙ (let e : suc p + length xs ≡ p + suc (length xs) = omega arith in rw e)
+
+-- the first j of len words of a part of the card are moved
+pub record Copying (c l : List ℕ) (start len at : ℕ) (now : List ℕ) (j : ℕ) : Type 0 where
+  pub within : j ≤ len
+  pub same : now ≡ sets l at (take j (drop start c))
+
+pub copying-start : (c l : List ℕ) (start len at : ℕ) → Copying c l start len at l 0
+copying-start c l start len at = record { within = zero-le; same = refl }
+
+pub copying-length : {c l now : List ℕ} {start len at j : ℕ} → Copying c l start len at now j → length now ≡ length l
+copying-length {c} {l} {now} {start} {len} {at} {j} k = ap length (k .same) ∙ length-sets l at (take j (drop start c))
+
+pub copying-turn :
+    {c l now : List ℕ} {start len at j : ℕ} → Copying c l start len at now j → j < len → start + len ≤ length c →
+    Copying c l start len at (set now (at + j) (getD c (start + j) 0)) (j + 1)
+copying-turn {c} {l} {now} {start} {len} {at} {j} k h f =
+    let n : length (take j (drop start c)) ≡ j = rw (length-take, length-drop) (omega arith) in
+    record {
+      within = omega arith;
+      same =
+          rw (k .same, add-one, take-suc (drop start c) j 0 (rw length-drop (omega arith)), getD-drop)
+          (sym (sets-append (take j (drop start c)) (getD c (start + j) 0 ∷ []) l at ∙ rw n));
+    }
+
+pub copying-end : {c l now : List ℕ} {start len at j : ℕ} → Copying c l start len at now j → len ≤ j → now ≡ sets l at (take len (drop start c))
+copying-end {c} {l} {now} {start} {len} {at} {j} k h = let e : len ≡ j = omega (arith, k .within) in rw e (k .same)
+
+-- the positions done are moved, and the others are ahead of w
+pub record Moving (c l : List ℕ) (v w : Walk) (now : List ℕ) (at : ℕ) : Type 0 where
+  pub ready : ReadyWalk c w
+  pub done : List ℕ
+  pub all : ahead c v ≡ done ++ ahead c w
+  pub count : at ≡ length done
+  pub same : now ≡ sets l 0 done
+
+pub moving-start : {c l : List ℕ} {v : Walk} → ReadyWalk c v → Moving c l v v l 0
+moving-start r = record { ready = r; done = []; all = refl; count = refl; same = refl }
+
+pub moving-length : {c l now : List ℕ} {v w : Walk} {at : ℕ} → Moving c l v w now at → length now ≡ length l
+moving-length {c} {l} k = ap length (k .same) ∙ length-sets l 0 (k .done)
+
+-- the run that follows has room
+pub moving-room :
+    {c l now : List ℕ} {v w : Walk} {at : ℕ} {r : WalkRun} → Moving c l v w now at → Next c w r → length (ahead c v) ≤ length l →
+    at + r .len ≤ length now
+moving-room {c} {l} {now} {v} {w} {at} {r} k x h =
+    omega (
+      arith,
+      moving-length k,
+      k .count,
+      ap length (k .all) ∙ length-append (k .done) (ahead c w),
+      ap length (x .rest (k .ready)) ∙ length-append (take (r .len) (drop (r .start) c)) (ahead c (r .rest)),
+      length-part c (r .start) (r .len) (x .inside),
+    )
+
+pub moving-turn :
+    {c l now : List ℕ} {v w : Walk} {at : ℕ} {r : WalkRun} {m : List ℕ} → Moving c l v w now at → Next c w r →
+    m ≡ sets now at (take (r .len) (drop (r .start) c)) → Moving c l v (r .rest) m (at + r .len)
+moving-turn {c} {l} {now} {v} {w} {at} {r} {m} k x e =
+    let part = take (r .len) (drop (r .start) c) in
+    record {
+      ready = x .ready (k .ready);
+      done = k .done ++ part;
+      all = k .all ∙ ap (λ l. k .done ++ l) (x .rest (k .ready)) ∙ sym (append-assoc (k .done) part (ahead c (r .rest)));
+      count = omega (arith, k .count, length-append (k .done) part, length-part c (r .start) (r .len) (x .inside));
+      same = e ∙ ap (λ i. sets i at part) (k .same) ∙ ap (λ i. sets (sets l 0 (k .done)) i part) start ∙ sym (sets-append (k .done) part l 0);
+    }
+  where
+    start : at ≡ 0 + length (k .done)
+    start = omega (arith, k .count)
+
+pub moving-end :
+    {c l now : List ℕ} {v w : Walk} {at : ℕ} {r : WalkRun} → Moving c l v w now at → Next c w r → r .len ≡ 0 → now ≡ sets l 0 (ahead c v)
+moving-end {c} {l} {now} {v} k x e =
+    let whole : ahead c v ≡ k .done = k .all ∙ (rw (x .none (k .ready) e) (append-nil (k .done))) in
+    rw whole (k .same)

@@ -1,0 +1,160 @@
+-- The map of a segment: its pairs rise, so that it is searched by halving.
+use Prim.Native.Nat.{ℕ, zero, suc, _+_, _-_, _%_, _≤_, _<_, zero-le}
+use native.Mathlib.Nat.{add-zero}
+use native.Mathlib.Omega.{arith}
+use mathlib.Core.Path.{_≡_, refl, sym, ap, _∙_}
+use mathlib.Core.Bool.{Bool, true, false, cond, _&&_, and-false, and-true}
+use mathlib.Core.List.{List, [], _∷_, map}
+use borrow.Author.Tests.{ltb-true, ltb-false, leb-true, leb-false, lt-ltb, le-ltb, le-leb, lt-leb, eqb-true, eqb-false}
+use lib.ListN.{length, getD, length-map}
+use lib.Dec.{ltb, leb, eqb}
+use Rattle.pair.specs.Rank.{rank}
+use Rattle.pair.specs.Rising.{keep, atMost, risingFrom, last}
+use Rattle.pair.proofs.Parts.{atMost-none}
+use Rattle.pair.proofs.Rising.{rising-cons, rising-weaker}
+use Rattle.pair.proofs.Search.{Halved, halved-start, halved-up, halved-down, halved-end}
+use Rattle.block.specs.Block.{pairs}
+use Rattle.block.specs.Wanted.{isWanted}
+use Rattle.card.specs.Layout.{placeCount, firstPair, place, around, pairsAt}
+use Rattle.card.specs.Sound.{blocksSound}
+use Rattle.card.proofs.Circle.{length-around}
+use Rattle.lookup.specs.Found.{mappedTo}
+use Rattle.lookup.specs.Segment.{Segment, LiveAfter}
+use Rattle.lookup.proofs.Span.{First, first}
+
+mapped-rising : (c is : List ℕ) (j : ℕ) → blocksSound c is ≡ true → risingFrom j (pairsAt c is) ≡ true → risingFrom j (map (firstPair c) is) ≡ true
+unfolding risingFrom
+mapped-rising c [] j s r = refl
+mapped-rising c (i ∷ is) j s r =
+    let f = first c j i is s r in
+    rising-cons (firstPair c i) (map (firstPair c) is) j (f .low)
+    (rising-weaker (map (firstPair c) is) (firstPair c i) (last j (pairs (place c i))) (f .high)
+    (mapped-rising c is (last j (pairs (place c i))) (f .sound) (f .behind)))
+
+-- the places with a map pair of at most k are so many of the map
+mapped-count : (c is : List ℕ) (j k : ℕ) → risingFrom j (map (firstPair c) is) ≡ true → mappedTo c k is ≡ length (atMost k (map (firstPair c) is))
+unfolding mappedTo atMost keep risingFrom
+mapped-count c [] j k r = refl
+mapped-count c (i ∷ is) j k r =
+    let behind : risingFrom (firstPair c i) (map (firstPair c) is) ≡ true = tail r in
+    go (leb (firstPair c i) k) refl behind (mapped-count c is (firstPair c i) k behind)
+  where
+    and-second : (a b : Bool) → (a && b) ≡ true → b ≡ true
+    and-second true b e = e
+    and-second false true e = refl
+    and-second false false e = e
+
+    tail : (ltb j (firstPair c i) && risingFrom (firstPair c i) (map (firstPair c) is)) ≡ true → risingFrom (firstPair c i) (map (firstPair c) is) ≡ true
+    tail e = and-second (ltb j (firstPair c i)) (risingFrom (firstPair c i) (map (firstPair c) is)) e
+
+    go :
+        (s : Bool) → leb (firstPair c i) k ≡ s → risingFrom (firstPair c i) (map (firstPair c) is) ≡ true →
+        mappedTo c k is ≡ length (atMost k (map (firstPair c) is)) →
+        cond s (suc (mappedTo c k is)) 0 ≡ length (cond s (firstPair c i ∷ atMost k (map (firstPair c) is)) (atMost k (map (firstPair c) is)))
+    go true e b ih = ap suc ih
+    go false e b ih =
+        let l : k < firstPair c i = leb-false (firstPair c i) k e in
+        sym (ap length (atMost-none (map (firstPair c) is) k (firstPair c i) (omega arith) b))
+
+around-at : (n s l m : ℕ) → m < l → getD (around n s l) m 0 ≡ (s + m) % n
+unfolding around
+around-at n s zero m h = absurd (omega arith)
+around-at n s (suc l) zero h = rw add-zero
+around-at n s (suc l) (suc m) h = around-at n (s + 1) l m (omega arith) ∙ (let e : s + 1 + m ≡ s + suc m = omega arith in rw e)
+
+mapped-at : (c is : List ℕ) (m : ℕ) → m < length is → getD (map (firstPair c) is) m 0 ≡ firstPair c (getD is m 0)
+mapped-at c [] m h = absurd (omega arith)
+mapped-at c (i ∷ is) zero h = refl
+mapped-at c (i ∷ is) (suc m) h = mapped-at c is m (omega arith)
+
+-- the map pairs of the len places from start
+abbrev pub mapped : List ℕ → ℕ → ℕ → List ℕ
+mapped c start len = map (firstPair c) (around (placeCount c) start len)
+
+pub length-mapped : (c : List ℕ) (start len : ℕ) → length (mapped c start len) ≡ len
+length-mapped c start len = length-map (around (placeCount c) start len) (firstPair c) ∙ length-around (placeCount c) start len
+
+-- what is sought of the map of the len places from start lies from low to high
+pub record Searching (c : List ℕ) (start len k low high : ℕ) : Type 0 where
+  pub order : low ≤ high
+  pub inside : high ≤ len
+  pub half : Halved (mapped c start len) k low high
+
+pub search-start : (c : List ℕ) (start len k : ℕ) → Searching c start len k 0 len
+search-start c start len k =
+    record { order = zero-le; inside = omega arith; half = rw (length-mapped c start len) at (halved-start (mapped c start len) k) }
+
+module _ {c : List ℕ} {start len k low high m v : ℕ} (h : Searching c start len k low high) (l : low ≤ m) (u : m < high) (e : v ≡ firstPair c ((start + m) % placeCount c)) where
+  at-middle : v ≡ getD (mapped c start len) m 0
+  at-middle =
+      let inside : m < len = omega (arith, h .inside) in
+      e
+      ∙ sym (mapped-at c (around (placeCount c) start len) m (rw length-around inside) ∙ ap (firstPair c) (around-at (placeCount c) start len m inside))
+
+  pub search-up : v ≤ k → Searching c start len k (m + 1) high
+  search-up q = record { order = omega arith; inside = h .inside; half = halved-up (h .half) l u (omega (arith, at-middle)) }
+
+  pub search-down : k < v → Searching c start len k low m
+  search-down q = record { order = l; inside = omega (arith, h .inside); half = halved-down (h .half) l u (omega (arith, at-middle)) }
+
+pub search-end :
+    {c : List ℕ} {start len k low high : ℕ} → Searching c start len k low high → high ≤ low → Segment c start len →
+    low ≡ mappedTo c k (around (placeCount c) start len)
+search-end {c} {start} {len} {k} h l s =
+    let rises = mapped-rising c (around (placeCount c) start len) 0 (s .sound) (s .rises) in
+    halved-end (h .half) l rises ∙ sym (mapped-count c (around (placeCount c) start len) 0 k rises)
+
+-- what is wanted of a segment whose pairs at or below (u, p) are not live
+beyond : (t a z u p : ℕ) → t < u → z < 4294967296 → LiveAfter t a z u p z
+beyond t a z u p h l = record { same = λ x. go x (leb x (rank t z)) refl }
+  where
+    go : (x : ℕ) (s : Bool) → leb x (rank t z) ≡ s → (ltb (rank t z) x && s) ≡ (ltb (rank u p) x && (leb (rank t a) x && s))
+    go x true e =
+        let m : x ≤ rank t z = leb-true x (rank t z) e in
+        rw (le-ltb (rank t z) x m, le-ltb (rank u p) x (omega arith))
+    go x false e = rw (and-false, and-false, and-false)
+
+keeps : (a b y : Bool) → (a ≡ true → b ≡ true) → (a && y) ≡ (a && (b && y))
+keeps true b y h = rw (h refl)
+keeps false b y h = refl
+
+adds : (a b y : Bool) → (b ≡ true → a ≡ true) → (b && y) ≡ (a && (b && y))
+adds a true y h = rw (h refl)
+adds a false y h = sym (and-false a)
+
+pub live-beyond : {t a z u p : ℕ} → t < u → z < 4294967296 → LiveAfter t a z u p z
+live-beyond {t} {a} {z} {u} {p} h l = beyond t a z u p h l
+
+pub live-bound : {t a z u p : ℕ} → (eqb u t && leb a p) ≡ true → LiveAfter t a z u p p
+live-bound {t} {a} {z} {u} {p} e = go (eqb u t) (leb a p) refl refl e
+  where
+    go : (x y : Bool) → eqb u t ≡ x → leb a p ≡ y → (x && y) ≡ true → LiveAfter t a z u p p
+    go false y f g h = absurd (let z : _≡_ {A = ℕ} 0 1 = cc in omega arith)
+    go true false f g h = absurd (let z : _≡_ {A = ℕ} 0 1 = cc in omega arith)
+    go true true f g h =
+        let same : u ≡ t = eqb-true u t f in
+        let low : a ≤ p = leb-true a p g in
+        record { same = λ x. rw same (keeps (ltb (rank t p) x) (leb (rank t a) x) (leb x (rank t z)) (λ q. let m : rank t p < x = ltb-true (rank t p) x q in le-leb (rank t a) x (omega arith))) }
+
+pub live-from : {t a z u p : ℕ} → u ≤ t → (eqb u t && leb a p) ≡ false → p < 4294967296 → 1 ≤ a → LiveAfter t a z u p (a - 1)
+live-from {t} {a} {z} {u} {p} h e w o =
+    record {
+      same = λ x.
+          ap (λ b. b && leb x (rank t z)) (before x)
+          ∙ adds (ltb (rank u p) x) (leb (rank t a) x) (leb x (rank t z)) (λ q. let m : rank t a ≤ x = leb-true (rank t a) x q in lt-ltb (rank u p) x (omega (arith, under)));
+    }
+  where
+    under : rank u p < rank t a
+    under = go (eqb u t) (leb a p) refl refl e
+      where
+        go : (x y : Bool) → eqb u t ≡ x → leb a p ≡ y → (x && y) ≡ false → rank u p < rank t a
+        go false y f g k = let n : (u ≡ t → ⊥) = eqb-false u t f in let l : u < t = omega arith in omega arith
+        go true false f g k = let n : p < a = leb-false a p g in let l : u ≡ t = eqb-true u t f in omega arith
+        go true true f g k = absurd (let z : _≡_ {A = ℕ} 0 1 = cc in omega arith)
+
+    before : (x : ℕ) → ltb (rank t (a - 1)) x ≡ leb (rank t a) x
+    before x = go (leb (rank t a) x) refl
+      where
+        go : (s : Bool) → leb (rank t a) x ≡ s → ltb (rank t (a - 1)) x ≡ s
+        go true f = let m : rank t a ≤ x = leb-true (rank t a) x f in lt-ltb (rank t (a - 1)) x (omega arith)
+        go false f = let m : x < rank t a = leb-false (rank t a) x f in le-ltb (rank t (a - 1)) x (omega arith)

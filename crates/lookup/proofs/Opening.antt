@@ -1,0 +1,233 @@
+-- The walk that a lookup makes: what is ahead of it is what is found, and its first run is the run view's.
+use Prim.Native.Nat.{ℕ, zero, suc, _+_, _*_, _-_, _%_, _≤_, _<_, zero-le}
+use native.Mathlib.Omega.{arith}
+use mathlib.Core.Path.{_≡_, refl, sym, ap, _∙_}
+use mathlib.Core.Bool.{Bool, true, false, cond, _&&_, _||_, not, and-false, true≢false}
+use mathlib.Core.List.{List, [], _∷_, _++_, map, map-append}
+use borrow.Author.Tests.{leb-true, lt-ltb, lt-leb, le-ltb, ltb-false, eqb-false, eq-eqb}
+use lib.ListN.{length, getD, length-append, length-map, length-take}
+use lib.Dec.{ltb, leb, eqb}
+use Rattle.pair.specs.Rank.{rank, position, Words}
+use Rattle.pair.specs.Rising.{keep, above, within}
+use Rattle.pair.proofs.Keep.{keep-append, keep-same, keep-keep, length-keep}
+use Rattle.block.specs.Block.{pairs}
+use Rattle.block.specs.Wanted.{isWanted, wordsBefore}
+use Rattle.block.proofs.Size.{block-size, length-size}
+use Rattle.card.specs.Layout.{blockSize, placeCount, oldStart, oldLength, newLength, boundary, entryWidth, placeAt, place, around, oldPlaces, newPlaces, pairsAt, live}
+use Rattle.card.proofs.Circle.{length-around}
+use Rattle.card.proofs.Facts.{Facts, facts}
+use Rattle.card.proofs.Live.{place-words}
+use Rattle.lookup.specs.declared.walk.Stretch.{Stretch}
+use Rattle.lookup.specs.declared.walk.Walk.{Walk}
+use Rattle.lookup.specs.Found.{found, span, blocksRead, questionNumber, runAt, run, runStartAt, runStart}
+use Rattle.lookup.specs.Segment.{Segment, spanned, LiveAfter, Opened}
+use Rattle.card.specs.Scan.{Shaped}
+use Rattle.lookup.specs.Walk.{postings, runOf, runStartOf, placesOf, aheadOf, firstRun, firstStart, orElse, orElseAt, ahead, nextRun, nextStart}
+use Rattle.lookup.proofs.Answers.{Asked, asked}
+use Rattle.lookup.proofs.Spanning.{Same, span-most, span-same, span-ready}
+
+words-same : (f g : ℕ → Bool) → ((x : ℕ) → f x ≡ g x) → (ws : List ℕ) (t n : ℕ) → wordsBefore f ws t n ≡ wordsBefore g ws t n
+unfolding wordsBefore
+words-same f g h [] t n = refl
+words-same f g h (p ∷ ws) t (suc n) = rw (h (rank t p), words-same f g h ws t n)
+words-same f g h (a ∷ []) t zero = refl
+words-same f g h (a ∷ b ∷ []) t zero = refl
+words-same f g h (a ∷ b ∷ p ∷ ws) t zero = rw (words-same f g h (p ∷ ws) a b)
+
+-- the wanted pairs of a segment are its pairs from a to z above the bound
+module _ (c : List ℕ) (k a z : ℕ) (f : ℕ → Bool) (h : (x : ℕ) → f x ≡ (ltb k x && (leb a x && leb x z))) where
+  turned : (x y w : Bool) → (x && (y && w)) ≡ ((y && w) && x)
+  turned true true true = refl
+  turned true true false = refl
+  turned true false w = refl
+  turned false y w = sym (and-false (y && w))
+
+  joined : (x y w : Bool) → (x && (y && w)) ≡ ((x && y) && w)
+  joined true y w = refl
+  joined false y w = refl
+
+  above-within : (xs : List ℕ) → keep f xs ≡ above k (within a z xs)
+  unfolding above within
+  above-within xs =
+      keep-same f (λ x. (leb a x && leb x z) && ltb k x) (λ x. h x ∙ turned (ltb k x) (leb a x) (leb x z)) xs
+      ∙ sym (keep-keep (ltb k) (λ x. leb a x && leb x z) xs)
+
+  pub within-above : (xs : List ℕ) → keep f xs ≡ within a z (above k xs)
+  unfolding above within
+  within-above xs = keep-same f (λ x. ltb k x && (leb a x && leb x z)) h xs ∙ sym (keep-keep (λ x. leb a x && leb x z) (ltb k) xs)
+
+  pub run-at : (is rest : List ℕ) → runAt c k a z is rest ≡ orElse (runOf c f is) rest
+  unfolding runAt runOf orElse
+  run-at [] rest = refl
+  run-at (i ∷ is) rest = go (above k (within a z (pairs (place c i)))) (keep f (pairs (place c i))) (above-within (pairs (place c i))) (run-at is rest)
+    where
+      go :
+          (ks ls : List ℕ) → ls ≡ ks → runAt c k a z is rest ≡ orElse (runOf c f is) rest →
+          elim ks [ [] ↦ runAt c k a z is rest | x ∷ xs ↦ map position (x ∷ xs) ]
+          ≡ orElse (elim ls [ [] ↦ runOf c f is | x ∷ xs ↦ map position (x ∷ xs) ]) rest
+      go [] [] e ih = ih
+      go (x ∷ xs) (y ∷ ys) e ih = ap (map position) (sym e)
+      go [] (y ∷ ys) e ih = absurd (let z : _≡_ {A = ℕ} 0 1 = cc in omega arith)
+      go (x ∷ xs) [] e ih = absurd (let z : _≡_ {A = ℕ} 0 1 = cc in omega arith)
+
+  pub start-at : (is : List ℕ) (rest : ℕ) → runStartAt c k a z is rest ≡ orElseAt (runOf c f is) (runStartOf c f is) rest
+  unfolding runStartAt runOf runStartOf orElseAt
+  start-at [] rest = refl
+  start-at (i ∷ is) rest = go (above k (within a z (pairs (place c i)))) (keep f (pairs (place c i))) (above-within (pairs (place c i))) (start-at is rest)
+    where
+      g : ℕ → Bool
+      g y = ltb k y && leb a y && leb y z
+
+      go :
+          (ks ls : List ℕ) → ls ≡ ks → runStartAt c k a z is rest ≡ orElseAt (runOf c f is) (runStartOf c f is) rest →
+          elim ks [ [] ↦ runStartAt c k a z is rest | x ∷ xs ↦ placeAt entryWidth c i + wordsBefore (λ y. ltb k y && leb a y && leb y z) (place c i) 0 0 ]
+          ≡ orElseAt (elim ls [ [] ↦ runOf c f is | x ∷ xs ↦ map position (x ∷ xs) ]) (elim ls [ [] ↦ runStartOf c f is | x ∷ xs ↦ placeAt entryWidth c i + wordsBefore f (place c i) 0 0 ]) rest
+      go [] [] e ih = ih
+      go (x ∷ xs) (y ∷ ys) e ih = ap (λ n. placeAt entryWidth c i + n) (words-same (λ y. ltb k y && leb a y && leb y z) f (λ y. sym (h y ∙ joined (ltb k y) (leb a y) (leb y z))) (place c i) 0 0)
+      go [] (y ∷ ys) e ih = absurd (let z : _≡_ {A = ℕ} 0 1 = cc in omega arith)
+      go (x ∷ xs) [] e ih = absurd (let z : _≡_ {A = ℕ} 0 1 = cc in omega arith)
+
+-- what is found is short: every block has at most 1,024 pairs
+length-pairsAt : (c is : List ℕ) → Words c → blockSize c ≤ 1024 → length (pairsAt c is) ≤ 1024 * length is
+unfolding pairsAt
+length-pairsAt c [] w h = omega arith
+length-pairsAt c (i ∷ is) w h =
+    let one : length (pairs (place c i)) ≤ length (place c i) = omega (arith, length-size 0 (pairs (place c i)), block-size (place c i) (place-words c i w)) in
+    let size : length (place c i) ≤ blockSize c = unfold place in rw length-take (omega arith) in
+    rw length-append (omega (arith, length-pairsAt c is w h))
+
+pub few-found : (c : List ℕ) (t a z : ℕ) → Words c → Facts c → length (found c t a z) < 4294967296
+unfolding found live within above
+few-found c t a z w g =
+    rw (length-map)
+    (omega (
+      arith,
+      length-keep (λ x. leb (rank t a) x && leb x (rank t z)) (pairsAt c (newPlaces c) ++ keep (ltb (boundary c)) (pairsAt c (oldPlaces c))),
+      length-append (pairsAt c (newPlaces c)) (keep (ltb (boundary c)) (pairsAt c (oldPlaces c))),
+      length-keep (ltb (boundary c)) (pairsAt c (oldPlaces c)),
+      length-pairsAt c (newPlaces c) w (g .sizeHigh),
+      length-pairsAt c (oldPlaces c) w (g .sizeHigh),
+      length-around (placeCount c) (oldStart c) (oldLength c),
+      length-around (placeCount c) (oldStart c + oldLength c) (newLength c),
+      g .room,
+      g .countHigh,
+    ))
+
+pub question-facts : (c : List ℕ) (t a z : ℕ) → questionNumber c t a z ≡ 0 → Facts c
+question-facts c t a z e = facts c (asked c t a z e .sound)
+
+pub shaped : (c : List ℕ) → Facts c → Shaped c
+shaped c g = record { sizeHigh = g .sizeHigh; countLow = g .countLow; countHigh = g .countHigh; long = g .long }
+
+pub old-segment : (c : List ℕ) → Facts c → Segment c (oldStart c) (oldLength c)
+old-segment c g =
+    record { shape = shaped c g; near = omega (arith, g .start, g .countHigh); few = omega (arith, g .room, g .countHigh); sound = g .oldSound; rises = g .oldRising }
+
+pub new-segment : (c : List ℕ) → Facts c → Segment c (oldStart c + oldLength c) (newLength c)
+new-segment c g =
+    record { shape = shaped c g; near = omega (arith, g .start, g .room, g .countHigh); few = omega (arith, g .room, g .countHigh); sound = g .newSound; rises = g .newRising }
+
+-- a pair below the range is not wanted, nor one above it
+module _ {t a z u p r : ℕ} (l : LiveAfter t a z u p r) where
+  pub not-below : (x : ℕ) → x < rank t a → isWanted t r z x ≡ false
+  not-below x h = l .same x ∙ rw (lt-leb (rank t a) x h) (and-false (ltb (rank u p) x))
+
+  pub not-above : (x : ℕ) → rank t z < x → isWanted t r z x ≡ false
+  not-above x h = l .same x ∙ rw (lt-leb x (rank t z) h, and-false (leb (rank t a) x)) (and-false (ltb (rank u p) x))
+
+-- where there is no run, it starts at 0
+no-start : (c : List ℕ) (f : ℕ → Bool) (is : List ℕ) → runOf c f is ≡ [] → runStartOf c f is ≡ 0
+unfolding runOf runStartOf
+no-start c f [] e = refl
+no-start c f (i ∷ is) e = go (keep f (pairs (place c i))) e (no-start c f is)
+  where
+    here : ℕ
+    here = placeAt entryWidth c i + wordsBefore f (place c i) 0 0
+
+    go :
+        (ks : List ℕ) → _≡_ {A = List ℕ} (elim ks [ [] ↦ runOf c f is | x ∷ xs ↦ map position (x ∷ xs) ]) [] → (runOf c f is ≡ [] → runStartOf c f is ≡ 0) →
+        _≡_ {A = ℕ} (elim ks [ [] ↦ runStartOf c f is | x ∷ xs ↦ here ]) 0
+    go [] e ih = ih e
+    go (x ∷ xs) e ih = absurd (let z : suc (length (map position xs)) ≡ 0 = ap length e in omega arith)
+
+at-nil : (xs : List ℕ) (i : ℕ) → (xs ≡ [] → i ≡ 0) → orElseAt xs i 0 ≡ i
+unfolding orElseAt
+at-nil [] i h = sym (h refl)
+at-nil (x ∷ xs) i h = refl
+
+or-nil : (xs : List ℕ) → orElse xs [] ≡ xs
+unfolding orElse
+or-nil [] = refl
+or-nil (x ∷ xs) = refl
+
+module _ (c : List ℕ) (t a z r q : ℕ) (w : Words c) (e : questionNumber c t a z ≡ 0) (l : LiveAfter t a z 0 0 r) (m : LiveAfter t a z (getD c 6 0) (getD c 7 0) q) where
+  abbrev walk : Walk
+  walk = record { term = t; to = z; new = spanned c (oldStart c + oldLength c) (newLength c) t a z r; old = spanned c (oldStart c) (oldLength c) t a z q }
+
+  g : Facts c
+  g = facts c (asked c t a z e .sound)
+
+  k : Asked c t a z
+  k = asked c t a z e
+
+  f : ℕ → Bool
+  f = isWanted t r z
+
+  o : ℕ → Bool
+  o = isWanted t q z
+
+  new : Same c (isWanted t r z) (newPlaces c) (placesOf c (spanned c (oldStart c + oldLength c) (newLength c) t a z r))
+  new = span-same c (oldStart c + oldLength c) (newLength c) t a z r (new-segment c g) (k .range) (isWanted t r z) (not-below l) (not-above l)
+
+  old : Same c (isWanted t q z) (oldPlaces c) (placesOf c (spanned c (oldStart c) (oldLength c) t a z q))
+  old = span-same c (oldStart c) (oldLength c) t a z q (old-segment c g) (k .range) (isWanted t q z) (not-below m) (not-above m)
+
+  -- every new pair from a to z is above 0
+  plain : (x : ℕ) → isWanted t r z x ≡ (leb (rank t a) x && leb x (rank t z))
+  plain x = l .same x ∙ go (leb (rank t a) x) refl
+    where
+      go : (s : Bool) → leb (rank t a) x ≡ s → (ltb (rank 0 0) x && (s && leb x (rank t z))) ≡ (s && leb x (rank t z))
+      go true y = let b : rank t a ≤ x = leb-true (rank t a) x y in rw (lt-ltb (rank 0 0) x (omega (arith, k .fromLow)))
+      go false y = and-false (ltb (rank 0 0) x)
+
+  is-found : ahead c walk ≡ found c t a z
+  unfolding found live postings within spanned
+  is-found =
+      rw (← new .kept, ← old .kept)
+      (rw (keep-same (isWanted t r z) (λ x. leb (rank t a) x && leb x (rank t z)) plain (pairsAt c (newPlaces c)), within-above c (boundary c) (rank t a) (rank t z) (isWanted t q z) (m .same) (pairsAt c (oldPlaces c)))
+      (sym (ap (map position) (keep-append (λ x. leb (rank t a) x && leb x (rank t z)) (pairsAt c (newPlaces c)) (above (boundary c) (pairsAt c (oldPlaces c))))
+      ∙ map-append _ (keep (λ x. leb (rank t a) x && leb x (rank t z)) (pairsAt c (newPlaces c))) (keep (λ x. leb (rank t a) x && leb x (rank t z)) (above (boundary c) (pairsAt c (oldPlaces c)))))))
+
+  is-run : nextRun c walk ≡ run c t a z
+  unfolding run spanned
+  is-run =
+      rw (eq-eqb (questionNumber c t a z) 0 e, ← new .run, ← old .run)
+      (sym (run-at c 0 (rank t a) (rank t z) (isWanted t r z) (l .same) (newPlaces c) _
+      ∙ ap (orElse (runOf c (isWanted t r z) (newPlaces c))) (run-at c (boundary c) (rank t a) (rank t z) (isWanted t q z) (m .same) (oldPlaces c) [] ∙ or-nil (runOf c (isWanted t q z) (oldPlaces c)))))
+
+  is-start : nextStart c walk ≡ runStart c t a z
+  unfolding runStart spanned
+  is-start =
+      let F = isWanted t r z in
+      let G = isWanted t q z in
+      rw (eq-eqb (questionNumber c t a z) 0 e, ← new .run, ← new .start, ← old .start)
+      (sym (start-at c 0 (rank t a) (rank t z) F (l .same) (newPlaces c) (runStartAt c (boundary c) (rank t a) (rank t z) (oldPlaces c) 0)
+      ∙ ap (orElseAt (runOf c F (newPlaces c)) (runStartOf c F (newPlaces c)))
+      (start-at c (boundary c) (rank t a) (rank t z) G (m .same) (oldPlaces c) 0 ∙ at-nil (runOf c G (oldPlaces c)) (runStartOf c G (oldPlaces c)) (no-start c G (oldPlaces c)))))
+
+  pub opened-walk : Opened c t a z walk
+  opened-walk =
+      record {
+        ready =
+            record {
+              new = span-ready c (oldStart c + oldLength c) (newLength c) t a z r (new-segment c g) (k .range);
+              old = span-ready c (oldStart c) (oldLength c) t a z q (old-segment c g) (k .range);
+            };
+        found = is-found;
+        few = rw is-found (few-found c t a z w g);
+        blocks = unfold spanned blocksRead in refl;
+        most = unfold spanned span in
+            omega (arith, span-most c (oldStart c + oldLength c) (newLength c) t a z r (new-segment c g) (k .range), span-most c (oldStart c) (oldLength c) t a z q (old-segment c g) (k .range), g .room, g .countHigh);
+        run = is-run;
+        start = is-start;
+      }

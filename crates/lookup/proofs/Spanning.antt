@@ -1,0 +1,257 @@
+-- The defined span of a segment: blocks outside it hold nothing wanted, so that what is wanted of the segment is wanted of the span.
+use Prim.Native.Nat.{ℕ, zero, suc, _+_, _-_, _%_, _≤_, _<_, zero-le}
+use native.Mathlib.Nat.{mod-lt}
+use native.Mathlib.Omega.{arith}
+use mathlib.Core.Path.{_≡_, refl, sym, ap, _∙_}
+use mathlib.Core.Bool.{Bool, true, false, cond, _&&_, true≢false}
+use mathlib.Core.List.{List, [], _∷_, _++_, map, append-assoc, append-nil, map-append}
+use borrow.Author.Tests.{leb-true, leb-false, le-leb, eqb-true}
+use lib.ListN.{length, take, drop, getD, take-append-drop, length-append, List·getD-append}
+use lib.Seq.{drop-drop}
+use lib.Dec.{ltb, leb, eqb}
+use Rattle.pair.specs.Rank.{rank, position}
+use Rattle.pair.specs.Rising.{Each, keep, above, atMost, within, risingFrom, last}
+use Rattle.pair.proofs.Each.{Each-imply, Each-take, Each-drop}
+use Rattle.pair.proofs.Keep.{keep-append, keep-none, keep-same, keep-keep}
+use Rattle.pair.proofs.Parts.{atMost-all, Each-atMost}
+use Rattle.pair.proofs.Rising.{rising-cons, rising-head, rising-tail, rising-last}
+use Rattle.pair.proofs.Sets.{rising-Each}
+use Rattle.pair.proofs.Tests.{and-left, and-right}
+use Rattle.block.specs.Block.{pairs, formed}
+use Rattle.block.specs.Wanted.{isWanted, wordsBefore}
+use Rattle.block.proofs.Reading.{formed-some}
+use Rattle.card.specs.Layout.{entryWidth, placeCount, placeAt, firstPair, place, around, pairsAt}
+use Rattle.card.specs.Sound.{blocksSound}
+use Rattle.card.proofs.Circle.{around-drop, around-mod, length-around}
+use Rattle.card.proofs.Live.{pairsAt-append}
+use Rattle.lookup.specs.Found.{mappedTo, span, runAt, runStartAt}
+use Rattle.lookup.specs.Segment.{Segment, spanned}
+use Rattle.lookup.specs.Walk.{runOf, runStartOf, placesOf, orElse, orElseAt, Ready}
+use Rattle.lookup.proofs.Span.{First, first}
+use Rattle.lookup.proofs.Walking.{run-skip, start-skip}
+
+-- nothing at the place passes the test
+abbrev pub Empty : List ℕ → (ℕ → Bool) → ℕ → Type 0
+Empty c f i = keep f (pairs (place c i)) ≡ []
+
+-- places whose pairs lie above z
+none-above :
+    (c : List ℕ) (f : ℕ → Bool) (z : ℕ) → ((x : ℕ) → z < x → f x ≡ false) → (is : List ℕ) (j : ℕ) → blocksSound c is ≡ true →
+    risingFrom j (pairsAt c is) ≡ true → z ≤ j → Each (Empty c f) is
+none-above c f z h [] j s r l = tt
+none-above c f z h (i ∷ is) j s r l =
+    let d = first c j i is s r in (
+      keep-none f (pairs (place c i)) (Each-imply (λ x. j < x) (λ x. f x ≡ false) (λ x q. h x (omega arith)) (pairs (place c i)) (rising-Each (pairs (place c i)) j (d .rises))),
+      none-above c f z h is (last j (pairs (place c i))) (d .sound) (d .behind) (omega (arith, rising-last (pairs (place c i)) j (d .rises))),
+    )
+
+head-rising : (ks : List ℕ) (j : ℕ) → 0 < length ks → risingFrom j ks ≡ true → risingFrom (getD ks 0 0 - 1) ks ≡ true
+head-rising [] j l r = absurd (omega arith)
+head-rising (k ∷ ks) j l r = rising-cons k ks (k - 1) (omega (arith, rising-head k ks j r)) (rising-tail k ks j r)
+
+-- the first pair of some places is the first place's map pair
+first-head : (c : List ℕ) (i : ℕ) (is : List ℕ) → blocksSound c (i ∷ is) ≡ true → (0 < length (pairsAt c (i ∷ is))) × (getD (pairsAt c (i ∷ is)) 0 0 ≡ firstPair c i)
+unfolding blocksSound pairsAt
+first-head c i is s =
+    let ks = pairs (place c i) in
+    let whole : (formed (place c i) && eqb (firstPair c i) (getD ks 0 0)) ≡ true = and-left _ (blocksSound c is) s in
+    let some : 0 < length ks = formed-some (place c i) (and-left _ (eqb (firstPair c i) (getD ks 0 0)) whole) in
+    let entry : firstPair c i ≡ getD ks 0 0 = eqb-true _ _ (and-right (formed (place c i)) _ whole) in
+    (rw length-append (omega arith), List·getD-append ks (pairsAt c is) 0 0 some ∙ sym entry)
+
+-- behind the last place with a map pair of at most z
+none-behind :
+    (c : List ℕ) (f : ℕ → Bool) (z : ℕ) → ((x : ℕ) → z < x → f x ≡ false) → (is : List ℕ) (j : ℕ) → blocksSound c is ≡ true →
+    risingFrom j (pairsAt c is) ≡ true → Each (Empty c f) (drop (mappedTo c z is) is)
+unfolding mappedTo
+none-behind c f z h [] j s r = tt
+none-behind c f z h (i ∷ is) j s r =
+    let d = first c j i is s r in
+    go (leb (firstPair c i) z) refl (none-behind c f z h is (last j (pairs (place c i))) (d .sound) (d .behind))
+  where
+    go : (b : Bool) → leb (firstPair c i) z ≡ b → Each (Empty c f) (drop (mappedTo c z is) is) → Each (Empty c f) (drop (cond b (suc (mappedTo c z is)) 0) (i ∷ is))
+    go true e ih = ih
+    go false e ih =
+        let l : z < firstPair c i = leb-false (firstPair c i) z e in
+        let hd = first-head c i is s in
+        none-above c f z h (i ∷ is) (getD (pairsAt c (i ∷ is)) 0 0 - 1) s (head-rising (pairsAt c (i ∷ is)) j (hd .0) r) (omega (arith, hd .1))
+
+-- before the last place with a map pair of at most a
+none-before :
+    (c : List ℕ) (f : ℕ → Bool) (a : ℕ) → ((x : ℕ) → x < a → f x ≡ false) → (is : List ℕ) (j : ℕ) → blocksSound c is ≡ true →
+    risingFrom j (pairsAt c is) ≡ true → Each (Empty c f) (take (mappedTo c a is - 1) is)
+unfolding mappedTo
+none-before c f a h [] j s r = tt
+none-before c f a h (i ∷ []) j s r = go (leb (firstPair c i) a)
+  where
+    go : (b : Bool) → Each (Empty c f) (take (cond b (suc 0) 0 - 1) (i ∷ []))
+    go true = tt
+    go false = tt
+none-before c f a h (i ∷ k ∷ is) j s r =
+    let d = first c j i (k ∷ is) s r in
+    go (leb (firstPair c i) a) (leb (firstPair c k) a) refl d (none-before c f a h (k ∷ is) (last j (pairs (place c i))) (d .sound) (d .behind))
+  where
+    go :
+        (b e : Bool) → leb (firstPair c k) a ≡ e → First c j i (k ∷ is) →
+        Each (Empty c f) (take (cond e (suc (mappedTo c a is)) 0 - 1) (k ∷ is)) →
+        Each (Empty c f) (take (cond b (suc (cond e (suc (mappedTo c a is)) 0)) 0 - 1) (i ∷ k ∷ is))
+    go false e g d ih = tt
+    go true false g d ih = tt
+    go true true g d ih =
+        let n : suc (suc (mappedTo c a is)) - 1 ≡ suc (suc (mappedTo c a is) - 1) = omega arith in
+        let next = first c (last j (pairs (place c i))) k is (d .sound) (d .behind) in
+        let l : firstPair c k ≤ a = leb-true (firstPair c k) a g in
+        let top = last j (pairs (place c i)) in
+        let most : Each (λ x. x ≤ top) (pairs (place c i)) = rw (atMost-all (pairs (place c i)) top j (d .rises) (omega arith)) at (Each-atMost top (pairs (place c i))) in
+        rw n
+        (keep-none f (pairs (place c i)) (Each-imply (λ x. x ≤ top) (λ x. f x ≡ false) (λ x q. h x (omega (arith, next .low))) (pairs (place c i)) most), ih)
+
+-- empty places are passed over, before and behind
+run-before : (c : List ℕ) (f : ℕ → Bool) (is js : List ℕ) → Each (Empty c f) is → runOf c f (is ++ js) ≡ runOf c f js
+run-before c f [] js e = refl
+run-before c f (i ∷ is) js e = run-skip c f i (is ++ js) (e .0) ∙ run-before c f is js (e .1)
+
+start-before : (c : List ℕ) (f : ℕ → Bool) (is js : List ℕ) → Each (Empty c f) is → runStartOf c f (is ++ js) ≡ runStartOf c f js
+start-before c f [] js e = refl
+start-before c f (i ∷ is) js e = start-skip c f i (is ++ js) (e .0) ∙ start-before c f is js (e .1)
+
+run-none : (c : List ℕ) (f : ℕ → Bool) (is : List ℕ) → Each (Empty c f) is → runOf c f is ≡ []
+run-none c f [] e = unfold runOf in refl
+run-none c f (i ∷ is) e = run-skip c f i is (e .0) ∙ run-none c f is (e .1)
+
+start-none : (c : List ℕ) (f : ℕ → Bool) (is : List ℕ) → Each (Empty c f) is → runStartOf c f is ≡ 0
+start-none c f [] e = unfold runStartOf in refl
+start-none c f (i ∷ is) e = start-skip c f i is (e .0) ∙ start-none c f is (e .1)
+
+run-behind : (c : List ℕ) (f : ℕ → Bool) (is js : List ℕ) → Each (Empty c f) js → runOf c f (is ++ js) ≡ runOf c f is
+unfolding runOf
+run-behind c f [] js e = run-none c f js e
+run-behind c f (i ∷ is) js e = go (keep f (pairs (place c i))) (run-behind c f is js e)
+  where
+    go :
+        (ks : List ℕ) → runOf c f (is ++ js) ≡ runOf c f is →
+        _≡_ {A = List ℕ} (elim ks [ [] ↦ runOf c f (is ++ js) | x ∷ xs ↦ map position (x ∷ xs) ]) (elim ks [ [] ↦ runOf c f is | x ∷ xs ↦ map position (x ∷ xs) ])
+    go [] ih = ih
+    go (x ∷ xs) ih = refl
+
+start-behind : (c : List ℕ) (f : ℕ → Bool) (is js : List ℕ) → Each (Empty c f) js → runStartOf c f (is ++ js) ≡ runStartOf c f is
+unfolding runStartOf
+start-behind c f [] js e = start-none c f js e
+start-behind c f (i ∷ is) js e = go (keep f (pairs (place c i))) (start-behind c f is js e)
+  where
+    here : ℕ
+    here = placeAt entryWidth c i + wordsBefore f (place c i) 0 0
+
+    go :
+        (ks : List ℕ) → runStartOf c f (is ++ js) ≡ runStartOf c f is →
+        _≡_ {A = ℕ} (elim ks [ [] ↦ runStartOf c f (is ++ js) | x ∷ xs ↦ here ]) (elim ks [ [] ↦ runStartOf c f is | x ∷ xs ↦ here ])
+    go [] ih = ih
+    go (x ∷ xs) ih = refl
+
+kept-none : (c : List ℕ) (f : ℕ → Bool) (is : List ℕ) → Each (Empty c f) is → keep f (pairsAt c is) ≡ []
+unfolding pairsAt keep
+kept-none c f [] e = refl
+kept-none c f (i ∷ is) e = keep-append f (pairs (place c i)) (pairsAt c is) ∙ rw (e .0, kept-none c f is (e .1))
+
+-- the places is, with js in the middle, the others being empty
+pub record Same (c : List ℕ) (f : ℕ → Bool) (is js : List ℕ) : Type 0 where
+  pub kept : keep f (pairsAt c is) ≡ keep f (pairsAt c js)
+  pub run : runOf c f is ≡ runOf c f js
+  pub start : runStartOf c f is ≡ runStartOf c f js
+
+same-middle : (c : List ℕ) (f : ℕ → Bool) (xs js ys : List ℕ) → Each (Empty c f) xs → Each (Empty c f) ys → Same c f (xs ++ (js ++ ys)) js
+same-middle c f xs js ys e g =
+    record {
+      kept =
+          rw (pairsAt-append c xs (js ++ ys), pairsAt-append c js ys, keep-append f (pairsAt c xs) (pairsAt c js ++ pairsAt c ys), keep-append f (pairsAt c js) (pairsAt c ys), kept-none c f xs e, kept-none c f ys g)
+          (append-nil (keep f (pairsAt c js)));
+      run = run-before c f xs (js ++ ys) e ∙ run-behind c f js ys g;
+      start = start-before c f xs (js ++ ys) e ∙ start-behind c f js ys g;
+    }
+
+cut : (is : List ℕ) (a b : ℕ) → a ≤ b → take a is ++ (take (b - a) (drop a is) ++ drop b is) ≡ is
+cut is a b h =
+    let e : a + (b - a) ≡ b = omega arith in
+    ap (λ l. take a is ++ (take (b - a) (drop a is) ++ l)) (ap (λ n. drop n is) (sym e) ∙ sym (drop-drop (b - a) a is))
+    ∙ ap (λ l. take a is ++ l) (take-append-drop (b - a) (drop a is))
+    ∙ take-append-drop a is
+
+pub mapped-order : (c : List ℕ) (a z : ℕ) (is : List ℕ) → a ≤ z → mappedTo c a is ≤ mappedTo c z is
+unfolding mappedTo
+mapped-order c a z [] h = omega arith
+mapped-order c a z (i ∷ is) h = go (leb (firstPair c i) a) refl (mapped-order c a z is h)
+  where
+    go : (s : Bool) → leb (firstPair c i) a ≡ s → mappedTo c a is ≤ mappedTo c z is → cond s (suc (mappedTo c a is)) 0 ≤ cond (leb (firstPair c i) z) (suc (mappedTo c z is)) 0
+    go true e ih = let l : firstPair c i ≤ a = leb-true (firstPair c i) a e in rw (le-leb (firstPair c i) z (omega arith)) (omega arith)
+    go false e ih = zero-le
+
+pub mapped-most : (c : List ℕ) (z : ℕ) (is : List ℕ) → mappedTo c z is ≤ length is
+unfolding mappedTo
+mapped-most c z [] = omega arith
+mapped-most c z (i ∷ is) = go (leb (firstPair c i) z) (mapped-most c z is)
+  where
+    go : (s : Bool) → mappedTo c z is ≤ length is → cond s (suc (mappedTo c z is)) 0 ≤ suc (length is)
+    go true ih = omega arith
+    go false ih = omega arith
+
+around-take : (n s l m : ℕ) → m ≤ l → take m (around n s l) ≡ around n s m
+unfolding around
+around-take n s l zero h = refl
+around-take n s zero (suc m) h = absurd (omega arith)
+around-take n s (suc l) (suc m) h = ap (λ k. s % n ∷ k) (around-take n (s + 1) l m (omega arith))
+
+sound-live : (c is : List ℕ) → blocksSound c is ≡ true → Each (λ i. formed (place c i) ≡ true) is
+unfolding blocksSound
+sound-live c [] s = tt
+sound-live c (i ∷ is) s =
+    let whole = and-left (formed (place c i) && eqb (firstPair c i) (getD (pairs (place c i)) 0 0)) (blocksSound c is) s in
+    (and-left (formed (place c i)) (eqb (firstPair c i) (getD (pairs (place c i)) 0 0)) whole, sound-live c is (and-right (formed (place c i) && eqb (firstPair c i) (getD (pairs (place c i)) 0 0)) (blocksSound c is) s))
+
+-- the span of a segment
+module _ (c : List ℕ) (start len t a z after : ℕ) (g : Segment c start len) (h : a ≤ z) where
+  abbrev is : List ℕ
+  is = around (placeCount c) start len
+
+  abbrev skipped : ℕ
+  skipped = mappedTo c (rank t a) is - 1
+
+  abbrev read : ℕ
+  read = mappedTo c (rank t z) is
+
+  order : skipped ≤ read
+  order = omega (arith, mapped-order c (rank t a) (rank t z) is (omega arith))
+
+  most : read ≤ len
+  most = rw length-around at (mapped-most c (rank t z) is)
+
+  pub span-most : skipped ≤ read × (read ≤ len)
+  span-most = (order, most)
+
+  places : placesOf c (spanned c start len t a z after) ≡ take (read - skipped) (drop skipped is)
+  unfolding spanned span
+  places =
+      around-mod (placeCount c) (start + skipped) (read - skipped)
+      ∙ sym (ap (take (read - skipped)) (around-drop (placeCount c) start skipped len (omega (arith, order, most)))
+      ∙ around-take (placeCount c) (start + skipped) (len - skipped) (read - skipped) (omega (arith, order, most)))
+
+  pub span-same : (f : ℕ → Bool) → ((x : ℕ) → x < rank t a → f x ≡ false) → ((x : ℕ) → rank t z < x → f x ≡ false) → Same c f is (placesOf c (spanned c start len t a z after))
+  span-same f l u =
+      rw places
+      (rw (cut is skipped read order) at
+      (same-middle c f (take skipped is) (take (read - skipped) (drop skipped is)) (drop read is) (none-before c f (rank t a) l is 0 (g .sound) (g .rises)) (none-behind c f (rank t z) u is 0 (g .sound) (g .rises))))
+
+  pub span-ready : Ready c (spanned c start len t a z after)
+  span-ready =
+      record {
+        shape = λ q. g .shape;
+        within = λ q. unfold spanned in mod-lt (start + skipped) (omega (arith, g .shape .countLow));
+        live = rw places (Each-take (λ i. formed (place c i) ≡ true) (read - skipped) (drop skipped is) (Each-drop (λ i. formed (place c i) ≡ true) skipped is (sound-live c is (g .sound))));
+      }
+
+-- what the code answers is the span
+pub spanned-is :
+    (c : List ℕ) (start len t a z after : ℕ) {skip read : ℕ} → skip ≡ mappedTo c (rank t a) (around (placeCount c) start len) - 1 →
+    read ≡ mappedTo c (rank t z) (around (placeCount c) start len) →
+    record { place = (start + skip) % placeCount c; blocks = read - skip; after = after } ≡ spanned c start len t a z after
+unfolding spanned span
+spanned-is c start len t a z after e f = rw (e, f)

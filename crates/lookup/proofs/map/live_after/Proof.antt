@@ -1,0 +1,22 @@
+-- `lookup::map::live_after` meets its contract, case by case.
+use native.Mathlib.Omega.{arith}
+use borrow.Author.Tests.{not-true}
+use Rattle.lookup.proofs.Mapping.{live-beyond, live-bound, live-from}
+use borrow.Author.Needs.{needs}
+use Rattle.lookup.proofs.map.live_after.Statement.{statement}
+use Rattle.lookup.proofs.map.live_after.Tie as tie
+
+returns : tie.Need-returns
+returns c = live-beyond (c .if1 .taken) (omega arith)
+
+returns-2 : tie.Need-returns-2
+returns-2 c = live-bound (c .if2 .taken)
+
+sub-result : tie.Need-sub-result
+sub-result c = search needs
+
+returns-3 : tie.Need-returns-3
+returns-3 c = live-from (c .before .if1 .left) (c .if2 .left) (omega arith) (c .before .before .pre)
+
+pub live-after-spec : {M : Type 1} → statement M
+live-after-spec = tie.close (tie.spec returns returns-2 sub-result returns-3)

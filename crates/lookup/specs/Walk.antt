@@ -1,0 +1,119 @@
+-- The blocks that a lookup reads, one run of wanted positions after another.
+use Prim.Native.Nat.{ℕ, _+_, _*_, _≤_, _<_}
+use mathlib.Core.Path.{_≡_}
+use mathlib.Core.Bool.{Bool, true, false, cond, _&&_}
+use mathlib.Core.List.{List, [], _∷_, _++_, map}
+use lib.ListN.{length, take, drop}
+use lib.Dec.{ltb, leb, eqb}
+use Rattle.pair.specs.Rank.{position}
+use Rattle.pair.specs.Rising.{Each, keep}
+use Rattle.block.specs.Block.{pairs, formed}
+use Rattle.block.specs.Wanted.{isWanted, wordsBefore}
+use Rattle.block.specs.declared.wanted.Part.{Part}
+use Rattle.card.specs.Layout.{blockSize, placeCount, entryWidth, cardLength, placeAt, place, around, pairsAt}
+use Rattle.card.specs.Scan.{Shaped}
+use Rattle.lookup.specs.declared.walk.Stretch.{Stretch}
+use Rattle.lookup.specs.declared.walk.Walk.{Walk}
+use Rattle.lookup.specs.declared.walk.StretchRun.{StretchRun}
+use Rattle.lookup.specs.declared.walk.WalkRun.{WalkRun}
+
+-- the test of a card's shape
+unfoldable pub isShaped : List ℕ → Bool
+isShaped c =
+    cond (ltb (length c) 8) false
+    (cond ((leb (blockSize c) 1024 && leb 2 (placeCount c)) && leb (placeCount c) 1024)
+    (eqb (length c) (cardLength entryWidth (blockSize c) (placeCount c))) false)
+
+-- of a live block, the part has the wanted positions, and starts where the first of them stands
+pub record PlacePart (c : List ℕ) (i t a z : ℕ) (r : Part) : Type 0 where
+  pub inside : r .start + r .len ≤ length c
+  pub positions : formed (place c i) ≡ true → take (r .len) (drop (r .start) c) ≡ map position (keep (isWanted t a z) (pairs (place c i)))
+  pub before :
+      formed (place c i) ≡ true → 0 < r .len →
+      r .start ≡ placeAt entryWidth c i + wordsBefore (isWanted t a z) (place c i) 0 0
+
+-- the positions of the pairs that pass the test, in the blocks at the places
+unfoldable pub postings : List ℕ → (ℕ → Bool) → List ℕ → List ℕ
+postings c f is = map position (keep f (pairsAt c is))
+
+-- those of the first of the places that has any
+unfoldable pub runOf : List ℕ → (ℕ → Bool) → List ℕ → List ℕ
+runOf c f [] = []
+runOf c f (i ∷ is) = elim (keep f (pairs (place c i))) [ [] ↦ runOf c f is | x ∷ xs ↦ map position (x ∷ xs) ]
+
+-- where in the card they start, 0 where there are none
+unfoldable pub runStartOf : List ℕ → (ℕ → Bool) → List ℕ → ℕ
+runStartOf c f [] = 0
+runStartOf c f (i ∷ is) =
+    elim (keep f (pairs (place c i))) [
+      | [] ↦ runStartOf c f is
+      | x ∷ xs ↦ placeAt entryWidth c i + wordsBefore f (place c i) 0 0
+    ]
+
+abbrev pub placesOf : List ℕ → Stretch → List ℕ
+placesOf c s = around (placeCount c) (s .place) (s .blocks)
+
+-- the wanted positions of a stretch
+abbrev pub aheadOf : List ℕ → ℕ → ℕ → Stretch → List ℕ
+aheadOf c t z s = postings c (isWanted t (s .after) z) (placesOf c s)
+
+abbrev pub firstRun : List ℕ → ℕ → ℕ → Stretch → List ℕ
+firstRun c t z s = runOf c (isWanted t (s .after) z) (placesOf c s)
+
+abbrev pub firstStart : List ℕ → ℕ → ℕ → Stretch → ℕ
+firstStart c t z s = runStartOf c (isWanted t (s .after) z) (placesOf c s)
+
+-- a stretch that has blocks lies in a card of the right shape, and they are live blocks
+pub record Ready (c : List ℕ) (s : Stretch) : Type 0 where
+  pub shape : 0 < s .blocks → Shaped c
+  pub within : 0 < s .blocks → s .place < placeCount c
+  pub live : Each (λ i. formed (place c i) ≡ true) (placesOf c s)
+
+-- what the search of a stretch answers
+pub record Sought (c : List ℕ) (t z : ℕ) (s : Stretch) (r : StretchRun) : Type 0 where
+  pub inside : r .start + r .len ≤ length c
+  pub most : r .rest .blocks ≤ s .blocks
+  pub fewer : 0 < r .len → r .rest .blocks < s .blocks
+  pub ready : Ready c s → Ready c (r .rest)
+  pub run : Ready c s → take (r .len) (drop (r .start) c) ≡ firstRun c t z s
+  pub starts : Ready c s → r .start ≡ firstStart c t z s
+  pub rest : Ready c s → aheadOf c t z s ≡ take (r .len) (drop (r .start) c) ++ aheadOf c t z (r .rest)
+  pub none : Ready c s → r .len ≡ 0 → aheadOf c t z s ≡ []
+
+-- the same of a walk
+abbrev pub ahead : List ℕ → Walk → List ℕ
+ahead c w = aheadOf c (w .term) (w .to) (w .new) ++ aheadOf c (w .term) (w .to) (w .old)
+
+abbrev pub blocksOf : Walk → ℕ
+blocksOf w = w .new .blocks + w .old .blocks
+
+-- the first of two lists that has an element
+unfoldable pub orElse : List ℕ → List ℕ → List ℕ
+orElse [] ys = ys
+orElse (x ∷ xs) ys = x ∷ xs
+
+-- the number that goes with it
+unfoldable pub orElseAt : List ℕ → ℕ → ℕ → ℕ
+orElseAt [] i j = j
+orElseAt (x ∷ xs) i j = i
+
+abbrev pub nextRun : List ℕ → Walk → List ℕ
+nextRun c w = orElse (firstRun c (w .term) (w .to) (w .new)) (firstRun c (w .term) (w .to) (w .old))
+
+abbrev pub nextStart : List ℕ → Walk → ℕ
+nextStart c w =
+    orElseAt (firstRun c (w .term) (w .to) (w .new)) (firstStart c (w .term) (w .to) (w .new))
+    (firstStart c (w .term) (w .to) (w .old))
+
+pub record ReadyWalk (c : List ℕ) (w : Walk) : Type 0 where
+  pub new : Ready c (w .new)
+  pub old : Ready c (w .old)
+
+pub record Next (c : List ℕ) (w : Walk) (r : WalkRun) : Type 0 where
+  pub inside : r .start + r .len ≤ length c
+  pub fewer : 0 < r .len → blocksOf (r .rest) < blocksOf w
+  pub ready : ReadyWalk c w → ReadyWalk c (r .rest)
+  pub run : ReadyWalk c w → take (r .len) (drop (r .start) c) ≡ nextRun c w
+  pub starts : ReadyWalk c w → r .start ≡ nextStart c w
+  pub rest : ReadyWalk c w → ahead c w ≡ take (r .len) (drop (r .start) c) ++ ahead c (r .rest)
+  pub none : ReadyWalk c w → r .len ≡ 0 → ahead c w ≡ []

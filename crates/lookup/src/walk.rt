@@ -1,0 +1,174 @@
+// A walk over the blocks that a lookup reads: it finds one run of wanted positions after another, each a part of the card.
+ghost use mathlib.Core.Path.{_≡_};
+ghost use Prim.Native.Nat.{_<_};
+ghost use Rattle.card.specs.Layout.{placeCount};
+ghost use Rattle.card.specs.Scan.{Shaped};
+ghost use Rattle.lookup.specs.Walk.{isShaped, PlacePart, Sought, Next};
+use block::wanted::Part;
+
+const CONFIGURATION_WORDS: usize = 8;
+
+const ENTRY_WIDTH: usize = 2;
+
+// Blocks of one segment: so many places from one on, around the circle. Wanted of them are positions above after.
+pub struct Stretch {
+    pub place: usize,
+    pub blocks: usize,
+    pub after: u32,
+}
+
+// The blocks still to be read, of the new segment and then of the old. Wanted of them are positions of the term, up to one.
+pub struct Walk {
+    pub term: u32,
+    pub to: u32,
+    pub new: Stretch,
+    pub old: Stretch,
+}
+
+// The wanted positions of the first block of a stretch that has any, as a part of the card, and the blocks behind it.
+pub struct StretchRun {
+    pub start: usize,
+    pub len: usize,
+    pub rest: Stretch,
+}
+
+// The same of a walk.
+pub struct WalkRun {
+    pub start: usize,
+    pub len: usize,
+    pub rest: Walk,
+}
+
+// Whether the block size and the count of places are within their limits and the card has the length that they give.
+fn is_shaped(card: &[u32]) -> bool
+    ensures { λ r. ⌜ r ≡ isShaped (now (card .entry)) ⌝ }
+{
+    if card.len() < CONFIGURATION_WORDS {
+        return false;
+    }
+    let size = card[1];
+    let places = card[2];
+    let fits = (size <= 1024) & (2 <= places) & (places <= 1024);
+    if !fits {
+        return false;
+    }
+    card.len()
+        == CONFIGURATION_WORDS + ENTRY_WIDTH * places as usize + places as usize * size as usize
+}
+
+// The wanted positions of the block at a place, as a part of the card.
+fn place_part(card: &[u32], place: usize, term: u32, after: u32, to: u32) -> Part
+    requires { ⌜ Shaped (now card) ⌝ }
+    requires { ⌜ place < placeCount (now card) ⌝ }
+    ensures { λ r. ⌜ PlacePart (now (card .entry)) place term after to r ⌝ }
+{
+    let size = card[1] as usize;
+    let start = CONFIGURATION_WORDS + ENTRY_WIDTH * card[2] as usize + place * size;
+    let end = start + size;
+    let found = block::wanted::block_part(&card[start..end], term, after, to);
+    let before = found.start;
+    let len = found.len;
+    Part {
+        start: start + before,
+        len,
+    }
+}
+
+// The first run of a stretch.
+fn seek(card: &[u32], term: u32, to: u32, s: Stretch) -> StretchRun
+    ensures { λ r. ⌜ Sought (now (card .entry)) term to s r ⌝ }
+{
+    let after = s.after;
+    let mut place = s.place;
+    let mut blocks = s.blocks;
+    if !is_shaped(card) {
+        return StretchRun {
+            start: 0,
+            len: 0,
+            rest: Stretch {
+                place,
+                blocks: 0,
+                after,
+            },
+        };
+    }
+    let places = card[2] as usize;
+    while 0 < blocks {
+        if places <= place {
+            return StretchRun {
+                start: 0,
+                len: 0,
+                rest: Stretch {
+                    place,
+                    blocks: 0,
+                    after,
+                },
+            };
+        }
+        let part = place_part(card, place, term, after, to);
+        let start = part.start;
+        let len = part.len;
+        place = (place + 1) % places;
+        blocks -= 1;
+        if 0 < len {
+            return StretchRun {
+                start,
+                len,
+                rest: Stretch {
+                    place,
+                    blocks,
+                    after,
+                },
+            };
+        }
+    }
+    StretchRun {
+        start: 0,
+        len: 0,
+        rest: Stretch {
+            place,
+            blocks: 0,
+            after,
+        },
+    }
+}
+
+// The next run of a walk.
+pub fn next_run(card: &[u32], w: Walk) -> WalkRun
+    ensures { λ r. ⌜ Next (now (card .entry)) w r ⌝ }
+{
+    let term = w.term;
+    let to = w.to;
+    let new = w.new;
+    let old = w.old;
+    let first = seek(card, term, to, new);
+    let start = first.start;
+    let len = first.len;
+    let new_rest = first.rest;
+    if 0 < len {
+        return WalkRun {
+            start,
+            len,
+            rest: Walk {
+                term,
+                to,
+                new: new_rest,
+                old,
+            },
+        };
+    }
+    let second = seek(card, term, to, old);
+    let start = second.start;
+    let len = second.len;
+    let old_rest = second.rest;
+    WalkRun {
+        start,
+        len,
+        rest: Walk {
+            term,
+            to,
+            new: new_rest,
+            old: old_rest,
+        },
+    }
+}
