@@ -9,14 +9,14 @@ use mathlib.Core.List.{List, [], _∷_}
 use lib.ListN.{length, drop, getD, length-drop}
 use lib.Seq.{drop-drop, drop-nil}
 use lib.Dec.{ltb, leb, eqb}
-use borrow.Author.Tests.{ltb-true, ltb-false, le-leb, lt-leb, ne-eqb, le-ltb, lt-ltb}
+use borrow.Author.Tests.{ltb-true, ltb-false, le-leb, lt-leb, ne-eqb, le-ltb, lt-ltb, leb-false}
 use Rattle.pair.specs.Rank.{rank, term, Words}
 use Rattle.pair.proofs.Tests.{and-left, and-right, or-left, or-right, or-both, and-both, not-holds}
 use Rattle.batch.specs.declared.Addition.{Addition}
 use Rattle.batch.specs.Batch.{Update, updates, anyUpdate, removes, adds, withdrawn, falls}
-use Rattle.batch.specs.Search.{OfWords, addsAbove, firstAdded, beforeAdded, nextAddition, TermStart}
+use Rattle.batch.specs.Search.{addsAbove, firstAdded, beforeAdded, nextAddition, beforeReaching, firstReaching}
 use Rattle.batch.proofs.Merge.{leastAdded, leastAdded-first, earlier}
-use Rattle.batch.proofs.InOrder.{EachUpdate, words-updates}
+use Rattle.batch.proofs.InOrder.{EachUpdate, EachUpdate-imply, Formed}
 use Rattle.batch.proofs.Records.{recordAt, updates-at}
 
 -- dropping words by fours is dropping records
@@ -92,80 +92,63 @@ falls-drop zero us x e = falls-lower us x 0 (omega arith) e
 falls-drop (suc n) [] x e = refl
 falls-drop (suc n) (u ∷ us) x e = falls-drop n us (rank (u .term) (u .from)) (or-right (ltb (rank (u .term) (u .from)) x) (falls (rank (u .term) (u .from)) us) e)
 
-no-rest : (v : Update) (rest : List Update) → [] ≡ v ∷ rest → ⊥
-no-rest v rest q = let z : _≡_ {A = ℕ} 0 1 = cc in omega arith
+-- the pairs of the record at i
+abbrev pub lowAt : List ℕ → ℕ → ℕ
+lowAt b i = rank (getD b (i + 1) 0) (getD b (i + 2) 0)
 
-each-at : (m : ℕ) (us : List Update) (v : Update) (rest : List Update) → EachUpdate OfWords us → drop m us ≡ v ∷ rest → OfWords v
-each-at m [] v rest w d = absurd (no-rest v rest (sym (drop-nil m) ∙ d))
-each-at zero (u ∷ us) v rest w d = let f : u ≡ v = cc in rw f at (w .0)
-each-at (suc m) (u ∷ us) v rest w d = each-at m us v rest (w .1) d
+abbrev pub highAt : List ℕ → ℕ → ℕ
+highAt b i = rank (getD b (i + 1) 0) (getD b (i + 3) 0)
 
--- the updates of a lower term than that of the update after m others are passed over
-low-first : (m : ℕ) (us : List Update) (x : ℕ) (v : Update) (rest : List Update) → falls x us ≡ false → drop m us ≡ v ∷ rest → x ≤ rank (v .term) (v .from)
-unfolding falls
-low-first m [] x v rest e d = absurd (no-rest v rest (sym (drop-nil m) ∙ d))
-low-first zero (u ∷ us) x v rest e d =
-    let f : u ≡ v = cc in
-    rw f at (ltb-false (rank (u .term) (u .from)) x (or-left (ltb (rank (u .term) (u .from)) x) (falls (rank (u .term) (u .from)) us) e))
-low-first (suc m) (u ∷ us) x v rest e d =
-    let here = rank (u .term) (u .from) in
-    let l : x ≤ here = ltb-false here x (or-left (ltb here x) (falls here us) e) in
-    omega (arith, low-first m us here v rest (or-right (ltb here x) (falls here us) e) d)
+-- the search for a record that reaches to a pair: none stands between the record it started from and the record n
+pub record Passes (b : List ℕ) (from x n : ℕ) : Type 0 where
+  pub before : from + beforeReaching x (drop from (updates b)) ≡ n + beforeReaching x (drop n (updates b))
 
-passed-lower :
-    (m : ℕ) (us : List Update) (x t : ℕ) (v : Update) (rest : List Update) (f : Update → Bool) → falls x us ≡ false → EachUpdate OfWords us →
-    drop m us ≡ v ∷ rest → v .term < t → ((u : Update) → OfWords u → u .term < t → f u ≡ false) → anyUpdate f us ≡ anyUpdate f rest
-unfolding falls anyUpdate
-passed-lower m [] x t v rest f e w d l g = absurd (no-rest v rest (sym (drop-nil m) ∙ d))
-passed-lower zero (u ∷ us) x t v rest f e w d l g =
-    let p : u ≡ v = cc in
-    let q : us ≡ rest = cc in
-    rw (g u (w .0) (rw p l), q)
-passed-lower (suc m) (u ∷ us) x t v rest f e w d l g =
-    let here = rank (u .term) (u .from) in
-    let ordered : falls here us ≡ false = or-right (ltb here x) (falls here us) e in
-    let below : here ≤ rank (v .term) (v .from) = low-first m us here v rest ordered d in
-    let o : OfWords v = each-at m us v rest (w .1) d in
-    rw (g u (w .0) (omega arith)) (passed-lower m us here t v rest f ordered (w .1) d l g)
+pub passes-start : (b : List ℕ) (from x : ℕ) → Passes b from x from
+passes-start b from x = record { before = refl }
 
--- the search for a term: the records before low have a lower term, if the batch is in order
-pub record Searches (b : List ℕ) (t low high : ℕ) : Type 0 where
-  pub order : low ≤ high
-  pub within : high ≤ length b / 4
-  pub before :
-      falls 0 (updates b) ≡ false → (f : Update → Bool) → ((u : Update) → OfWords u → u .term < t → f u ≡ false) →
-      anyUpdate f (updates b) ≡ anyUpdate f (drop low (updates b))
+pub passes-turn : {b : List ℕ} {from x n : ℕ} → Passes b from x n → n < length b / 4 → highAt b (n * 4) < x → Passes b from x (n + 1)
+unfolding beforeReaching
+passes-turn {b} {from} {x} {n} s h l =
+    let more : n + suc (beforeReaching x (drop (n + 1) (updates b))) ≡ n + 1 + beforeReaching x (drop (n + 1) (updates b)) = omega arith in
+    record { before = s .before ∙ rw (update-at b n h, lt-leb x (highAt b (n * 4)) l) more }
 
-pub searches-start : (b : List ℕ) (t : ℕ) → Searches b t 0 (length b / 4)
-searches-start b t = record { order = omega arith; within = omega arith; before = λ e f g. refl }
+pub passes-found : {b : List ℕ} {from x n : ℕ} → Passes b from x n → n < length b / 4 → x ≤ highAt b (n * 4) → n ≡ firstReaching b from x
+unfolding beforeReaching firstReaching
+passes-found {b} {from} {x} {n} s h l = sym (s .before ∙ rw (update-at b n h, le-leb x (highAt b (n * 4)) l) (add-zero n))
 
-EachUpdate-drop : (P : Update → Type 0) (n : ℕ) (us : List Update) → EachUpdate P us → EachUpdate P (drop n us)
+pub passes-end : {b : List ℕ} {from x n : ℕ} → Passes b from x n → length b / 4 ≤ n → n ≡ firstReaching b from x
+unfolding beforeReaching firstReaching
+passes-end {b} {from} {x} {n} s h = sym (s .before ∙ rw (update-end b n h) (add-zero n))
+
+-- the updates before it do nothing to x, nor to any pair from x on
+any-before : (f : Update → Bool) (us : List Update) (x : ℕ) → EachUpdate (λ u. rank (u .term) (u .to) < x → f u ≡ false) us → anyUpdate f us ≡ anyUpdate f (drop (beforeReaching x us) us)
+unfolding anyUpdate beforeReaching
+any-before f [] x a = refl
+any-before f (u ∷ us) x (a, rest) = go (leb x (rank (u .term) (u .to))) refl (any-before f us x rest)
+  where
+    go : (t : Bool) → leb x (rank (u .term) (u .to)) ≡ t → anyUpdate f us ≡ anyUpdate f (drop (beforeReaching x us) us) →
+        (f u || anyUpdate f us) ≡ anyUpdate f (drop (cond t 0 (suc (beforeReaching x us))) (u ∷ us))
+    go true e ih = refl
+    go false e ih = rw (a (leb-false x (rank (u .term) (u .to)) e)) ih
+
+pub withdrawn-before : (us : List Update) (x y : ℕ) → x ≤ y → EachUpdate Formed us → withdrawn us y ≡ withdrawn (drop (beforeReaching x us) us) y
+unfolding withdrawn
+withdrawn-before us x y h a =
+    rw (
+      any-before (removes y) us x (EachUpdate-imply Formed (λ u. rank (u .term) (u .to) < x → removes y u ≡ false) gone us a),
+      any-before (adds y) us x (EachUpdate-imply Formed (λ u. rank (u .term) (u .to) < x → adds y u ≡ false) other us a),
+    )
+  where
+    gone : (u : Update) → Formed u → rank (u .term) (u .to) < x → removes y u ≡ false
+    gone u f l = unfold removes in rw (lt-leb y (rank (u .term) (u .to)) (omega arith)) (and-false (eqb (u .kind) 2 && leb (rank (u .term) (u .from)) y))
+
+    other : (u : Update) → Formed u → rank (u .term) (u .to) < x → adds y u ≡ false
+    other u f l = unfold adds in rw (ne-eqb y (rank (u .term) (u .from)) (omega (arith, f .range))) (and-false (eqb (u .kind) 1))
+
+pub EachUpdate-drop : (P : Update → Type 0) (n : ℕ) (us : List Update) → EachUpdate P us → EachUpdate P (drop n us)
 EachUpdate-drop P zero us a = a
 EachUpdate-drop P (suc n) [] a = tt
 EachUpdate-drop P (suc n) (u ∷ us) a = EachUpdate-drop P n us (a .1)
-
-pub searches-up :
-    {b : List ℕ} {t low high : ℕ} → Searches b t low high → Words b → (m : ℕ) → low ≤ m → m < high → getD b (m * 4 + 1) 0 < t →
-    Searches b t (m + 1) high
-searches-up {b} {t} {low} {high} s w m h l e =
-    record {
-      order = omega arith;
-      within = s .within;
-      before = λ o f g.
-          s .before o f g
-          ∙ passed-lower (m - low) (drop low (updates b)) 0 t (recordAt b (m * 4)) (drop (m + 1) (updates b)) f (falls-drop low (updates b) 0 o)
-          (EachUpdate-drop OfWords low (updates b) (words-updates b w))
-          (drop-drop (m - low) low (updates b) ∙ rw there (update-at b m (omega (arith, s .within)))) e g;
-    }
-  where
-    there : low + (m - low) ≡ m
-    there = omega arith
-
-pub searches-down : {b : List ℕ} {t low high : ℕ} → Searches b t low high → (m : ℕ) → low ≤ m → m < high → Searches b t low m
-searches-down s m h l = record { order = h; within = omega (arith, s .within); before = s .before }
-
-pub searches-end : {b : List ℕ} {t low high : ℕ} → Searches b t low high → high ≤ low → TermStart b t low
-searches-end s h = record { within = omega (arith, s .within, s .order); before = s .before }
 
 -- the walk over the records of a term: what they do to the pair is what the flags say of those read, or what the rest does
 pub record Walks (b : List ℕ) (start x : ℕ) (removed added : Bool) (n : ℕ) : Type 0 where
@@ -175,13 +158,6 @@ pub record Walks (b : List ℕ) (start x : ℕ) (removed added : Bool) (n : ℕ)
 
 pub walks-start : (b : List ℕ) (start x : ℕ) → Walks b start x false false start
 walks-start b start x = record { ordered = λ e. e; taken = refl; given = refl }
-
--- the pairs of the record at i
-abbrev pub lowAt : List ℕ → ℕ → ℕ
-lowAt b i = rank (getD b (i + 1) 0) (getD b (i + 2) 0)
-
-abbrev pub highAt : List ℕ → ℕ → ℕ
-highAt b i = rank (getD b (i + 1) 0) (getD b (i + 3) 0)
 
 pub walks-turn :
     {b : List ℕ} {start x : ℕ} {removed added : Bool} {n : ℕ} → Walks b start x removed added n → n < length b / 4 → lowAt b (n * 4) ≤ x →
@@ -229,20 +205,6 @@ pub walks-end :
     {b : List ℕ} {start x : ℕ} {removed added : Bool} {n : ℕ} → Walks b start x removed added n → length b / 4 ≤ n → (removed && not added) ≡ withdrawn (drop start (updates b)) x
 unfolding anyUpdate
 walks-end {b} {start} {x} {removed} {added} {n} s h = walks-over s (rw (update-end b n h)) (rw (update-end b n h))
-
--- an update of a lower term does nothing to a pair
-lower-removes : (x : ℕ) (u : Update) → OfWords u → u .term < term x → removes x u ≡ false
-unfolding removes
-lower-removes x u w l = rw (lt-leb x (rank (u .term) (u .to)) (omega arith)) (and-false (eqb (u .kind) 2 && leb (rank (u .term) (u .from)) x))
-
-lower-adds : (x : ℕ) (u : Update) → OfWords u → u .term < term x → adds x u ≡ false
-unfolding adds
-lower-adds x u w l = rw (ne-eqb x (rank (u .term) (u .from)) (omega arith)) (and-false (eqb (u .kind) 1))
-
--- the records of the pair's own term decide
-pub withdrawn-start : {b : List ℕ} {n : ℕ} (x : ℕ) → TermStart b (term x) n → falls 0 (updates b) ≡ false → withdrawn (updates b) x ≡ withdrawn (drop n (updates b)) x
-unfolding withdrawn
-withdrawn-start x s o = rw (s .before o (removes x) (lower-removes x), s .before o (adds x) (lower-adds x))
 
 -- in a batch in order the first addition above k is the least
 pub firstAdded-least : (us : List Update) (x k : ℕ) → falls x us ≡ false → firstAdded k us ≡ leastAdded k us

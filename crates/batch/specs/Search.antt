@@ -1,13 +1,12 @@
 -- What the searches over a batch answer.
-use Prim.Native.Nat.{ℕ, suc, _+_, _/_, _≤_, _<_}
-use mathlib.Core.Path.{_≡_}
-use mathlib.Core.Bool.{Bool, true, false, cond, _&&_}
+use Prim.Native.Nat.{ℕ, suc, _+_, _<_}
+use mathlib.Core.Bool.{Bool, cond, _&&_}
 use mathlib.Core.List.{List, [], _∷_}
-use lib.ListN.{length, drop}
-use lib.Dec.{ltb, eqb}
+use lib.ListN.{drop}
+use lib.Dec.{ltb, leb, eqb}
 use Rattle.pair.specs.Rank.{rank}
 use Rattle.batch.specs.declared.Addition.{Addition}
-use Rattle.batch.specs.Batch.{Update, updates, anyUpdate, removes, adds, falls}
+use Rattle.batch.specs.Batch.{Update, updates}
 
 -- its words are 32-bit words
 pub record OfWords (u : Update) : Type 0 where
@@ -34,9 +33,11 @@ beforeAdded k (u ∷ us) = cond (addsAbove k u) 0 (suc (beforeAdded k us))
 unfoldable pub nextAddition : List ℕ → ℕ → ℕ → Addition
 nextAddition b n k = record { at = n + beforeAdded k (drop n (updates b)); rank = firstAdded k (drop n (updates b)) }
 
--- n records stand before those of the term t, if the batch is in order: no update of a lower term is missed by starting there
-pub record TermStart (b : List ℕ) (t n : ℕ) : Type 0 where
-  pub within : n ≤ length b / 4
-  pub before :
-      falls 0 (updates b) ≡ false → (f : Update → Bool) → ((u : Update) → OfWords u → u .term < t → f u ≡ false) →
-      anyUpdate f (updates b) ≡ anyUpdate f (drop n (updates b))
+-- how many updates stand before the first that reaches to x: whose last pair is not below it
+unfoldable pub beforeReaching : ℕ → List Update → ℕ
+beforeReaching x [] = 0
+beforeReaching x (u ∷ us) = cond (leb x (rank (u .term) (u .to))) 0 (suc (beforeReaching x us))
+
+-- the first record from n on that reaches to x
+unfoldable pub firstReaching : List ℕ → ℕ → ℕ → ℕ
+firstReaching b n x = n + beforeReaching x (drop n (updates b))

@@ -4,16 +4,13 @@ ghost use mathlib.Core.Bool.{false};
 ghost use lib.ListN.{drop};
 ghost use Rattle.batch.specs.Batch.{illFormed, batchNumber};
 ghost use Rattle.batch.specs.Batch.{updates, withdrawn, falls};
-ghost use Rattle.batch.specs.Search.{TermStart, nextAddition};
+ghost use Rattle.batch.specs.Search.{firstReaching, nextAddition};
 use pair::Pair;
 
 // The words of a record, and the most words of a batch: 4,096 records.
 const RECORD_WORDS: usize = 4;
 
 const MOST_WORDS: usize = 16_384;
-
-// Ranks of one term lie in one stretch of this many numbers.
-const TERM_STRETCH: u64 = 4_294_967_296;
 
 const ADDS: u32 = 1;
 
@@ -101,26 +98,29 @@ pub fn next_addition(batch: &[u32], from: usize, above: u64) -> Addition
     Addition { at: n, rank: 0 }
 }
 
-// How many records stand before those of a term, where the batch is in order.
-fn term_start(batch: &[u32], term: u64) -> usize
-    ensures { λ r. ⌜ TermStart (now (batch .entry)) term r ⌝ }
+// The first record from a number on that reaches to a rank: its last pair is not below it.
+pub fn first_reaching(batch: &[u32], from: usize, rank: u64) -> usize
+    ensures { λ r. ⌜ r ≡ firstReaching (now (batch .entry)) from rank ⌝ }
 {
-    let mut low: usize = 0;
-    let mut high: usize = batch.len() / RECORD_WORDS;
-    while low < high {
-        let middle = low + (high - low) / 2;
-        let here = batch[middle * RECORD_WORDS + 1] as u64;
-        if here < term {
-            low = middle + 1;
-        } else {
-            high = middle;
+    let mut n = from;
+    while n < batch.len() / RECORD_WORDS {
+        let i = n * RECORD_WORDS;
+        let last = Pair {
+            term: batch[i + 1],
+            position: batch[i + 3],
+        };
+        let high = last.rank();
+        if rank <= high {
+            return n;
         }
+        n += 1;
     }
-    low
+    n
 }
 
-// Whether the records from a number on remove the pair and do not add it, where they are in order.
-fn withdrawn_from(batch: &[u32], start: usize, rank: u64) -> bool
+// Whether the records from a number on take the pair away, where they are in order: they remove it and do not add it. Reads no record beyond
+// the pair.
+pub fn withdrawn(batch: &[u32], start: usize, rank: u64) -> bool
     ensures { λ r. ⌜ (falls 0 (drop start (updates (now (batch .entry)))) ≡ false → r ≡ withdrawn (drop start (updates (now (batch .entry)))) rank) ⌝ }
 {
     let mut removed = false;
@@ -148,12 +148,4 @@ fn withdrawn_from(batch: &[u32], start: usize, rank: u64) -> bool
         n += 1;
     }
     removed & !added
-}
-
-// Whether a batch in order takes the pair away: it removes it and does not add it. Reads the records of the pair's own term only.
-pub fn withdrawn(batch: &[u32], rank: u64) -> bool
-    ensures { λ r. ⌜ (batchNumber (now (batch .entry)) ≡ 0 → r ≡ withdrawn (updates (now (batch .entry))) rank) ⌝ }
-{
-    let start = term_start(batch, rank / TERM_STRETCH);
-    withdrawn_from(batch, start, rank)
 }

@@ -21,13 +21,13 @@ use Rattle.block.proofs.Filling.{Filled, filled-end, filled-full}
 use Rattle.card.specs.Layout.{blockSize, boundary, oldPlaces, pairsAt, live}
 use Rattle.card.proofs.Facts.{Facts}
 use Rattle.card.proofs.Live.{live-rising, live-above}
-use Rattle.batch.specs.Batch.{updates, withdrawn, withAdded, applied, batchNumber}
-use Rattle.batch.specs.Search.{firstAdded, beforeAdded, nextAddition}
+use Rattle.batch.specs.Batch.{Update, updates, withdrawn, withAdded, applied, batchNumber}
+use Rattle.batch.specs.Search.{firstAdded, beforeAdded, nextAddition, beforeReaching, firstReaching}
 use Rattle.batch.specs.declared.Addition.{Addition}
-use Rattle.batch.proofs.InOrder.{inOrder}
+use Rattle.batch.proofs.InOrder.{Formed, inOrder, formed-updates}
 use Rattle.batch.proofs.Meaning.{rises-withAdded}
 use Rattle.batch.proofs.Merge.{firstAbove, earlier, leastAdded, earlier-none, earlier-left, earlier-right, firstAbove-withAdded, applied-turn, applied-end}
-use Rattle.batch.proofs.Search.{falls-drop, firstAdded-least, leastAdded-before}
+use Rattle.batch.proofs.Search.{EachUpdate-drop, falls-drop, firstAdded-least, leastAdded-before, withdrawn-before}
 use Rattle.update.specs.declared.old.OldCursor.{OldCursor}
 use Rattle.update.specs.declared.packing.Packing.{Packing}
 use Rattle.update.specs.declared.due.Due.{Due}
@@ -43,8 +43,8 @@ use Rattle.update.proofs.Skipping.{started-coming}
 abbrev made : List ℕ → List ℕ → List ℕ
 made c b = applied (updates b) (live c)
 
--- the pairs ks are put, those up to k are passed, and no record before at adds a pair above k
-pub record Merging (c b ws : List ℕ) (k at : ℕ) (o : OldCursor) (p : Packing) : Type 0 where
+-- the pairs ks are put, those up to k are passed, no record before at adds a pair above k, and none before st withdraws one
+pub record Merging (c b ws : List ℕ) (k at st : ℕ) (o : OldCursor) (p : Packing) : Type 0 where
   pub ks : List ℕ
   pub low : boundary c ≤ k
   pub long : length ws ≡ blockSize c
@@ -53,10 +53,11 @@ pub record Merging (c b ws : List ℕ) (k at : ℕ) (o : OldCursor) (p : Packing
   pub stands : Stands c o
   pub olds : above k (live c) ≡ above k (pending c o)
   pub adds : (j : ℕ) → k ≤ j → leastAdded j (updates b) ≡ leastAdded j (drop at (updates b))
+  pub reached : (j : ℕ) → k ≤ j → withdrawn (updates b) j ≡ withdrawn (drop st (updates b)) j
 
 pub merging-start :
     (c b ws : List ℕ) (o : OldCursor) → Facts c → ws ≡ replicate (blockSize c) 0 → Advanced c (started c) o →
-    Merging c b ws (boundary c) 0 o (record { used = 0; last = 0; count = 0 })
+    Merging c b ws (boundary c) 0 0 o (record { used = 0; last = 0; count = 0 })
 merging-start c b ws o f e a =
     record {
       ks = [];
@@ -67,6 +68,7 @@ merging-start c b ws o f e a =
       stands = a .stands;
       olds = live-above c f ∙ sym (ap (above (boundary c)) (a .next ∙ started-coming c));
       adds = λ j h. refl;
+      reached = λ j h. refl;
     }
 
 -- the lesser of two is the earlier
@@ -114,7 +116,7 @@ cost-high t x = go (eqb (term x) t)
     go false = omega arith
 
 -- A turn: the old cursor has gone on to the pairs above k, and the next addition above k is found.
-module _ {c b ws : List ℕ} {k at : ℕ} {o : OldCursor} {p : Packing} (m : Merging c b ws k at o p) (f : Facts c) (e : batchNumber b ≡ 0) (q : OldCursor) (s : Skipped c o k q) where
+module _ {c b ws : List ℕ} {k at st : ℕ} {o : OldCursor} {p : Packing} (m : Merging c b ws k at st o p) (f : Facts c) (e : batchNumber b ≡ 0) (q : OldCursor) (s : Skipped c o k q) where
   abbrev next : ℕ
   next = lesser (nextAddition b at k .rank) (q .rank)
 
@@ -188,6 +190,13 @@ module _ {c b ws : List ℕ} {k at : ℕ} {o : OldCursor} {p : Packing} (m : Mer
       unfold nextAddition in
       m .adds j h ∙ leastAdded-before (drop at (updates b)) k j h ∙ ap (leastAdded j) (drop-drop (beforeAdded k (drop at (updates b))) at (updates b))
 
+  -- the records before the first that reaches to the next pair withdraw nothing from there on
+  pub reached-next : (j : ℕ) → k ≤ j → next ≤ j → withdrawn (updates b) j ≡ withdrawn (drop (firstReaching b st next) (updates b)) j
+  reached-next j h l =
+      unfold firstReaching in
+      m .reached j h ∙ withdrawn-before (drop st (updates b)) next j l (EachUpdate-drop Formed st (updates b) (formed-updates b e))
+      ∙ ap (λ (us : List Update). withdrawn us j) (drop-drop (beforeReaching next (drop st (updates b))) st (updates b))
+
   length-put : (t : Bool) → length (putWords ws p next t) ≡ length ws
   length-put t =
       unfold putWords in go t (eqb (term next) (term (p .last)))
@@ -218,7 +227,7 @@ module _ {c b ws : List ℕ} {k at : ℕ} {o : OldCursor} {p : Packing} (m : Mer
   pub merging-turn :
       (t : Bool) → Remaining c (remains c b) → (next ≡ 0 → ⊥) → not (withdrawn (updates b) next) ≡ t →
       (t && ltb (length ws - p .used) (cost (term (p .last)) next)) ≡ false →
-      Merging c b (putWords ws p next t) next (nextAddition b at k .at) q (putPacking p next t)
+      Merging c b (putWords ws p next t) next (nextAddition b at k .at) (firstReaching b st next) q (putPacking p next t)
   merging-turn true r n w l =
       let room : p .used + cost (term (p .last)) next ≤ length ws = omega (arith, ltb-false (length ws - p .used) (cost (term (p .last)) next) l, m .holds .inside) in
       record {
@@ -230,6 +239,7 @@ module _ {c b ws : List ℕ} {k at : ℕ} {o : OldCursor} {p : Packing} (m : Mer
         stands = s .stands;
         olds = olds-next n;
         adds = λ j h. adds-next j (omega (arith, next-above n));
+        reached = λ j h. reached-next j (omega (arith, next-above n)) h;
       }
   merging-turn false r n w l =
       record {
@@ -241,6 +251,7 @@ module _ {c b ws : List ℕ} {k at : ℕ} {o : OldCursor} {p : Packing} (m : Mer
         stands = s .stands;
         olds = olds-next n;
         adds = λ j h. adds-next j (omega (arith, next-above n));
+        reached = λ j h. reached-next j (omega (arith, next-above n)) h;
       }
 
 -- what a turn of the loop has found: the old cursor above k, the addition, the next pair, and whether it is withdrawn
@@ -255,18 +266,24 @@ is-next : {c b : List ℕ} {k at : ℕ} {o q : OldCursor} {a : Addition} {x : �
 is-next {q = q} t = t .pair ∙ ap (λ (d : Addition). lesser (d .rank) (q .rank)) (t .addition)
 
 pub turned-end :
-    {c b ws : List ℕ} {k at : ℕ} {o q : OldCursor} {p : Packing} {a : Addition} {x : ℕ} → Merging c b ws k at o p → Turn c b k at o q a x → x ≡ 0 →
+    {c b ws : List ℕ} {k at st : ℕ} {o q : OldCursor} {p : Packing} {a : Addition} {x : ℕ} → Merging c b ws k at st o p → Turn c b k at o q a x → x ≡ 0 →
     Answers c (remains c b) ws (record { used = p .used; last = p .last; more = false })
 turned-end {q = q} m t n = merging-end m (t .sound) (t .inOrder) q (t .skipped) (sym (is-next t) ∙ n)
 
 module _
-    {c b ws : List ℕ} {k at : ℕ} {o q : OldCursor} {p : Packing} {a : Addition} {x : ℕ} (m : Merging c b ws k at o p) (t : Turn c b k at o q a x)
+    {c b ws : List ℕ} {k at st : ℕ} {o q : OldCursor} {p : Packing} {a : Addition} {x : ℕ} (m : Merging c b ws k at st o p) (t : Turn c b k at o q a x)
     (n : x ≡ 0 → ⊥) where
   some : lesser (nextAddition b at k .rank) (q .rank) ≡ 0 → ⊥
   some z = n (is-next t ∙ z)
 
   pub turned-less : length (above x (withAdded (updates b) (live c))) < length (above k (withAdded (updates b) (live c)))
   turned-less = rw (is-next t) (turn-less m (t .sound) (t .inOrder) q (t .skipped) some)
+
+  -- what the records from there on do to it is what the batch does
+  pub turned-withdrawn : withdrawn (drop (firstReaching b st x) (updates b)) x ≡ withdrawn (updates b) x
+  turned-withdrawn =
+      rw (is-next t)
+      (sym (reached-next m (t .sound) (t .inOrder) q (t .skipped) _ (omega (arith, next-above m (t .sound) (t .inOrder) q (t .skipped) some)) (omega arith)))
 
   module _ (v : Bool) (e : v ≡ withdrawn (updates b) x) where
     kept : not (withdrawn (updates b) (lesser (nextAddition b at k .rank) (q .rank))) ≡ not v
@@ -286,6 +303,7 @@ module _
       pub turned-puts : Puts ws p x (not v)
       turned-puts = rw (is-next t) (merging-puts m (t .sound) (t .inOrder) q (t .skipped) (not v) r some kept room)
 
-      pub turned : (ws′ : List ℕ) (p′ : Packing) → ws′ ≡ putWords ws p x (not v) → p′ ≡ putPacking p x (not v) → Merging c b ws′ x (a .at) q p′
-      turned ws′ p′ f g =
-          rw (f, g, is-next t, t .addition) (merging-turn m (t .sound) (t .inOrder) q (t .skipped) (not v) r some kept room)
+      pub turned :
+          (ws′ : List ℕ) (st′ : ℕ) (p′ : Packing) → ws′ ≡ putWords ws p x (not v) → st′ ≡ firstReaching b st x → p′ ≡ putPacking p x (not v) → Merging c b ws′ x (a .at) st′ q p′
+      turned ws′ st′ p′ f z g =
+          rw (f, z, g, is-next t, t .addition) (merging-turn m (t .sound) (t .inOrder) q (t .skipped) (not v) r some kept room)

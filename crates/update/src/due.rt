@@ -46,6 +46,7 @@ pub(crate) fn fill(card: &[u32], batch: &[u32], words: &mut [u32]) -> Due
     };
     let mut passed = boundary.rank();
     let mut at: usize = 0;
+    let mut start: usize = 0;
     let mut old = old::first(card);
     let mut packing = Packing {
         used: 0,
@@ -66,7 +67,8 @@ pub(crate) fn fill(card: &[u32], batch: &[u32], words: &mut [u32]) -> Due
                 more: false,
             };
         }
-        let kept = !batch::withdrawn(batch, rank);
+        start = batch::first_reaching(batch, start, rank);
+        let kept = !batch::withdrawn(batch, start, rank);
         let cost = packing::cost(packing, rank);
         if kept & (words.len() - used < cost) {
             return Due {

@@ -13,8 +13,10 @@ use Rattle.pair.specs.Rising.{above}
 use Rattle.card.specs.Layout.{blockSize, live}
 use Rattle.card.proofs.Facts.{Facts, facts}
 use Rattle.batch.specs.Batch.{updates, withdrawn, withAdded}
+use Rattle.batch.proofs.InOrder.{inOrder}
+use Rattle.batch.proofs.Search.{falls-drop}
 use Rattle.update.proofs.Grown.{Remaining}
-use Rattle.update.proofs.Merging.{Merging, merging-start, Turn, turned-end, turned-less, turned-full, turned-puts, turned}
+use Rattle.update.proofs.Merging.{Merging, merging-start, Turn, turned-end, turned-less, turned-withdrawn, turned-full, turned-puts, turned}
 use Rattle.update.proofs.Next.{remaining}
 use Rattle.update.proofs.Skipping.{eight}
 use Rattle.update.specs.Step.{remains}
@@ -23,10 +25,10 @@ use Rattle.update.proofs.due.fill.Statement.{statement}
 use Rattle.update.proofs.due.fill.Tie as tie
 
 abbrev Inv-loop : tie.InvT-loop
-Inv-loop card batch words₀ passed₀ at₀ old₀ packing₀ words passed at old packing = Merging card batch words passed at old packing
+Inv-loop card batch words₀ passed₀ at₀ start₀ old₀ packing₀ words passed at start old packing = Merging card batch words passed at start old packing
 
 abbrev μ-loop : tie.MeasureT-loop
-μ-loop card batch words₀ passed₀ at₀ old₀ packing₀ words passed at old packing = length (above passed (withAdded (updates batch) (live card)))
+μ-loop card batch words₀ passed₀ at₀ start₀ old₀ packing₀ words passed at start old packing = length (above passed (withAdded (updates batch) (live card)))
 
 abbrev S : tie.At-loop Inv-loop μ-loop → tie.Start Inv-loop μ-loop
 S c = c .before .before .before .before .before .before .before .before
@@ -52,24 +54,29 @@ turn c =
       pair = c .lesser .ensures;
     }
 
-withdraws : (c : tie.After-withdrawn Inv-loop μ-loop) → c .withdrawn .result ≡ withdrawn (updates (now (S (c .before .before .before .before .before) .args .batch))) (c .before .before .lesser .result)
-withdraws c = c .withdrawn .ensures (S (c .before .before .before .before .before) .pre .1 .0)
+-- what the leaf answers is what the batch does
+withdraws : (c : tie.After-withdrawn Inv-loop μ-loop) → c .withdrawn .result ≡ withdrawn (updates (now (S (c .before .before .before .before .before .before) .args .batch))) (c .before .before .before .lesser .result)
+withdraws c =
+    let s = S (c .before .before .before .before .before .before) in
+    let b = now (s .args .batch) in
+    c .withdrawn .ensures (falls-drop (c .before .first-reaching .result) (updates b) 0 (inOrder b (s .pre .1 .0) .ordered))
+    ∙ rw (c .before .first-reaching .ensures) (turned-withdrawn (c .before .before .before .before .before .before .loop .inv) (turn (c .before .before .before)) (c .before .before .if1 .left))
 
 -- the test with the cost as the definition has it
 costs :
     (c : tie.After-cost Inv-loop μ-loop) (t : Bool) →
-    (not (c .before .withdrawn .result) && ltb (length (c .before .before .before .before .before .before .loop .words) - c .before .before .before .before .before .before .loop .packing .used) (c .cost .result)) ≡ t →
-    (not (c .before .withdrawn .result) && ltb (length (c .before .before .before .before .before .before .loop .words) - c .before .before .before .before .before .before .loop .packing .used) (cost (term (c .before .before .before .before .before .before .loop .packing .last)) (c .before .before .before .lesser .result))) ≡ t
+    (not (c .before .withdrawn .result) && ltb (length (c .before .before .before .before .before .before .before .loop .words) - c .before .before .before .before .before .before .before .loop .packing .used) (c .cost .result)) ≡ t →
+    (not (c .before .withdrawn .result) && ltb (length (c .before .before .before .before .before .before .before .loop .words) - c .before .before .before .before .before .before .before .loop .packing .used) (cost (term (c .before .before .before .before .before .before .before .loop .packing .last)) (c .before .before .before .before .lesser .result))) ≡ t
 costs c t e = rw (c .cost .ensures) at e
 
 kept-length : (c : tie.At-loop Inv-loop μ-loop) → length (c .loop .words) ≡ length (now (S c .args .words))
 kept-length c = c .loop .inv .long ∙ sym (ap length (S c .pre .1 .1) ∙ length-replicate (blockSize (now (S c .args .card))) 0)
 
-shared-slice-read-t16 : tie.Need-shared-slice-read-t16 Inv-loop μ-loop
-shared-slice-read-t16 c = omega (arith, eight (facts _ (c .before .before .before .before .pre .0)))
+shared-slice-read-t17 : tie.Need-shared-slice-read-t17 Inv-loop μ-loop
+shared-slice-read-t17 c = omega (arith, eight (facts _ (c .before .before .before .before .pre .0)))
 
-shared-slice-read-t18 : tie.Need-shared-slice-read-t18 Inv-loop μ-loop
-shared-slice-read-t18 c = omega (arith, eight (facts _ (c .before .before .before .before .before .pre .0)))
+shared-slice-read-t19 : tie.Need-shared-slice-read-t19 Inv-loop μ-loop
+shared-slice-read-t19 c = omega (arith, eight (facts _ (c .before .before .before .before .before .pre .0)))
 
 rank-requires : tie.Need-rank-requires Inv-loop μ-loop
 rank-requires c κs = search needs
@@ -97,6 +104,9 @@ same-length c = kept-length (c .before .before .before .before)
 returns : tie.Need-returns Inv-loop μ-loop
 returns c = turned-end (c .before .before .before .before .loop .inv) (turn (c .before)) (c .if1 .taken)
 
+first-reaching-requires : tie.Need-first-reaching-requires Inv-loop μ-loop
+first-reaching-requires c κs = search needs
+
 withdrawn-requires : tie.Need-withdrawn-requires Inv-loop μ-loop
 withdrawn-requires c κs = search needs
 
@@ -104,29 +114,29 @@ cost-requires : tie.Need-cost-requires Inv-loop μ-loop
 cost-requires c κs = search needs
 
 sub-if2 : tie.Need-sub-if2 Inv-loop μ-loop
-sub-if2 c = c .before .before .before .before .before .before .loop .inv .holds .inside
+sub-if2 c = c .before .before .before .before .before .before .before .loop .inv .holds .inside
 
 same-length-2 : tie.Need-same-length-2 Inv-loop μ-loop
-same-length-2 c = kept-length (c .before .before .before .before .before .before .before)
+same-length-2 c = kept-length (c .before .before .before .before .before .before .before .before)
 
 returns-2 : tie.Need-returns-2 Inv-loop μ-loop
 returns-2 c =
     let w = c .before .before in
-    turned-full (c .before .before .before .before .before .before .before .loop .inv) (turn (w .before .before)) (w .before .if1 .left) (w .withdrawn .result) (withdraws w) (costs (c .before) true (c .if2 .taken))
+    turned-full (c .before .before .before .before .before .before .before .before .loop .inv) (turn (w .before .before .before)) (w .before .before .if1 .left) (w .withdrawn .result) (withdraws w) (costs (c .before) true (c .if2 .taken))
 
 put-requires : tie.Need-put-requires Inv-loop μ-loop
 put-requires c κs =
     let w = c .before .before .before in
-    turned-puts (c .before .before .before .before .before .before .before .before .loop .inv) (turn (w .before .before)) (w .before .if1 .left) (w .withdrawn .result) (withdraws w) (left (c .before .before .before .before .before .before .before .before)) (costs (c .before .before) false (c .before .if2 .left))
+    turned-puts (c .before .before .before .before .before .before .before .before .before .loop .inv) (turn (w .before .before .before)) (w .before .before .if1 .left) (w .withdrawn .result) (withdraws w) (left (c .before .before .before .before .before .before .before .before .before)) (costs (c .before .before) false (c .before .if2 .left))
 
 loop-less : tie.Need-loop-less Inv-loop μ-loop
-loop-less c = turned-less (c .before .before .before .before .before .before .before .before .before .before .before .loop .inv) (turn (c .before .before .before .before .before .before .before .before)) (c .before .before .before .before .before .before .before .if1 .left)
+loop-less c = turned-less (c .before .before .before .before .before .before .before .before .before .before .before .before .loop .inv) (turn (c .before .before .before .before .before .before .before .before .before)) (c .before .before .before .before .before .before .before .before .if1 .left)
 
 loop-again : tie.Need-loop-again Inv-loop μ-loop
 loop-again c =
     let w = c .before .before .before .before .before .before in
-    turned (c .before .before .before .before .before .before .before .before .before .before .before .loop .inv) (turn (c .before .before .before .before .before .before .before .before)) (w .before .if1 .left) (w .withdrawn .result) (withdraws w) (left (c .before .before .before .before .before .before .before .before .before .before .before))
-    (costs (c .before .before .before .before .before) false (c .before .before .before .before .if2 .left)) _ _ (c .before .before .put .ensures .0) (c .before .before .put .ensures .1)
+    turned (c .before .before .before .before .before .before .before .before .before .before .before .before .loop .inv) (turn (c .before .before .before .before .before .before .before .before .before)) (w .before .before .if1 .left) (w .withdrawn .result) (withdraws w) (left (c .before .before .before .before .before .before .before .before .before .before .before .before))
+    (costs (c .before .before .before .before .before) false (c .before .before .before .before .if2 .left)) _ _ _ (c .before .before .put .ensures .0) (w .before .first-reaching .ensures) (c .before .before .put .ensures .1)
 
 pub fill-spec : {M : Type 1} → statement M
 fill-spec =
@@ -134,8 +144,8 @@ fill-spec =
     (tie.spec
     Inv-loop
     μ-loop
-    shared-slice-read-t16
-    shared-slice-read-t18
+    shared-slice-read-t17
+    shared-slice-read-t19
     rank-requires
     first-requires
     loop-holds
@@ -144,6 +154,7 @@ fill-spec =
     lesser-requires
     same-length
     returns
+    first-reaching-requires
     withdrawn-requires
     cost-requires
     sub-if2
