@@ -2,7 +2,7 @@
 ghost use mathlib.Core.Path.{_≡_};
 ghost use Prim.Native.Nat.{_+_, _*_};
 ghost use Rattle.lookup.specs.Found.{questionNumber, run, runStart};
-ghost use Rattle.lookup.specs.Answer.{Answered};
+ghost use Rattle.lookup.specs.Answer.{Answered, Flat};
 use crate::map::opened;
 use crate::taking::copy_ahead;
 use crate::taking::count_ahead;
@@ -58,6 +58,36 @@ pub fn lookup(card: &[u32], term: u32, from: u32, to: u32, answer: &mut [u32]) -
     LookupAnswer::Found {
         count: count as u32,
         blocks: blocks as u32,
+    }
+}
+
+// The lookup in flat numbers, as the C function has it: the reply is the number, 0 where it is not refused, and the counts are stored.
+pub fn lookup_flat(
+    card: &[u32],
+    term: u32,
+    from: u32,
+    to: u32,
+    answer: &mut [u32],
+    found: &mut u32,
+    blocks: &mut u32,
+) -> u32
+    ensures { λ r. ⌜ Flat (now (card .entry)) term from to (now (answer .entry)) r (now (found .exit)) (now (blocks .exit)) (now (answer .exit)) ⌝ }
+{
+    let reply = lookup(card, term, from, to, answer);
+    match reply {
+        LookupAnswer::Refused(number) => {
+            *found = 0;
+            *blocks = 0;
+            number
+        }
+        LookupAnswer::Found {
+            count,
+            blocks: read,
+        } => {
+            *found = count;
+            *blocks = read;
+            0
+        }
     }
 }
 
