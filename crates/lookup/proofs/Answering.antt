@@ -2,7 +2,7 @@
 use Prim.Native.Nat.{ℕ, _+_, _*_, _-_, _≤_, _<_}
 use native.Mathlib.Omega.{arith}
 use mathlib.Core.Path.{_≡_, refl, sym, ap, _∙_}
-use mathlib.Core.Bool.{Bool, true, false, cond, _||_, not}
+use mathlib.Core.Bool.{true, false, _||_}
 use mathlib.Core.List.{List, []}
 use borrow.Author.Tests.{eq-eqb, ne-eqb, lt-ltb, le-ltb}
 use lib.ListN.{length, take, drop}
@@ -15,7 +15,7 @@ use Rattle.lookup.specs.declared.walk.WalkRun.{WalkRun}
 use Rattle.lookup.specs.declared.LookupAnswer.{LookupAnswer}
 use Rattle.lookup.specs.declared.LookupAnswer.the-variants.{Refused, Found}
 use Rattle.lookup.specs.Answer.{numberOf, countOf, blocksReadOf, Answered, Flat}
-use Rattle.lookup.specs.Found.{found, blocksRead, questionNumber, lookupNumber, lookup, run, runStart}
+use Rattle.lookup.specs.Found.{found, questionNumber, lookupNumber, run, runStart}
 use Rattle.lookup.specs.Segment.{Opened}
 use Rattle.lookup.specs.Walk.{ahead, blocksOf, Next}
 use Rattle.lookup.proofs.Answers.{lookup-found, lookup-refused}
