@@ -7,29 +7,43 @@ OPTIMISE = -O2
 LIBRARY = target/staticlib/libgameindex.a
 HEADER = include/gameindex.h
 SOURCES = crates.txt $(shell find crates -name '*.rt' -o -name '*.antt')
-HOST_FILES = host/gameindex.c host/card_file.c
+HOST_FILES = $(wildcard host/*.c)
+HOST_HEADERS = $(wildcard host/*.h)
+BENCH_FILES = bench/bench.c bench/bench.h
+BENCH_CC = $(CC) $(WARNINGS) -O3 -Iinclude -Ibench
+TEST_FILES = tests/c/test_gameindex.c tests/c/format_judge.c tests/c/step.c tests/c/lookup.c
 C_FILES = $(wildcard include/*.h host/*.[ch] tests/c/*.[ch] bench/*.[ch])
 
 .DELETE_ON_ERROR:
 .PHONY: help run test bench fmt clean
 
 help:
-	@echo 'make run     build the library and the host program; format, judge and show a card'
+	@echo 'make run     build the library and the host program; make a card, apply a batch, look up'
 	@echo 'make test    run the merge gate, .ci/run'
-	@echo 'make bench   time the judge against one in plain C'
+	@echo 'make bench   time the judge against one in plain C, steps and lookups against the judge'
 	@echo 'make fmt     format Rattle, Rust and C files'
 	@echo 'make clean   remove all that was built'
 
+# additions of (5,2), (5,9), (7,4), (8,1) and the removal of 6 from 1 to 9
 run: target/gameindex
+	rm -f target/demo.card
+	tests/c/words.sh  1 5 2 2  1 5 9 9  2 6 1 9  1 7 4 4  1 8 1 1 >target/demo.batch
 	target/gameindex format target/demo.card 8 4
+	target/gameindex apply target/demo.card target/demo.batch
 	target/gameindex judge target/demo.card
 	target/gameindex show target/demo.card
+	target/gameindex lookup target/demo.card 5
+	target/gameindex lookup target/demo.card 8 2 9
 
 test:
 	.ci/run
 
-bench: target/bench_judge
+bench: target/bench_judge target/bench_step target/bench_lookup
 	target/bench_judge
+	@echo
+	target/bench_step
+	@echo
+	target/bench_lookup
 
 fmt:
 	rt fmt
@@ -43,11 +57,21 @@ clean:
 $(LIBRARY): $(SOURCES)
 	rt staticlib gameindex
 
-target/gameindex: $(HOST_FILES) host/card_file.h $(HEADER) $(LIBRARY)
+target/gameindex: $(HOST_FILES) $(HOST_HEADERS) $(HEADER) $(LIBRARY)
 	$(CC) $(WARNINGS) $(OPTIMISE) -Iinclude -o $@ $(HOST_FILES) $(LIBRARY)
 
-target/test_gameindex: tests/c/test_gameindex.c tests/c/small_cards.h $(HEADER) $(LIBRARY)
-	$(CC) $(WARNINGS) $(OPTIMISE) -Iinclude -o $@ tests/c/test_gameindex.c $(LIBRARY)
+# the host program as it is, but for file writes that can fail as with the power
+target/gameindex_cut: $(HOST_FILES) $(HOST_HEADERS) tests/c/power_cut.c $(HEADER) $(LIBRARY)
+	$(CC) $(WARNINGS) $(OPTIMISE) -Iinclude -Wl,--wrap=pwrite,--wrap=fdatasync -o $@ $(HOST_FILES) tests/c/power_cut.c $(LIBRARY)
 
-target/bench_judge: bench/judge.c bench/judge_c.c bench/judge_c.h $(HEADER) $(LIBRARY)
-	$(CC) $(WARNINGS) -O3 -Iinclude -Ibench -o $@ bench/judge.c bench/judge_c.c $(LIBRARY)
+target/test_gameindex: $(TEST_FILES) tests/c/small_cards.h $(HEADER) $(LIBRARY)
+	$(CC) $(WARNINGS) $(OPTIMISE) -Iinclude -o $@ $(TEST_FILES) $(LIBRARY)
+
+target/bench_judge: bench/judge.c bench/judge_c.c bench/judge_c.h $(BENCH_FILES) $(HEADER) $(LIBRARY)
+	$(BENCH_CC) -o $@ bench/judge.c bench/judge_c.c bench/bench.c $(LIBRARY)
+
+target/bench_step: bench/step.c $(BENCH_FILES) $(HEADER) $(LIBRARY)
+	$(BENCH_CC) -o $@ bench/step.c bench/bench.c $(LIBRARY)
+
+target/bench_lookup: bench/lookup.c $(BENCH_FILES) $(HEADER) $(LIBRARY)
+	$(BENCH_CC) -o $@ bench/lookup.c bench/bench.c $(LIBRARY)

@@ -10,11 +10,11 @@
 #include <stdlib.h>
 #include <string.h>
 #include <sys/stat.h>
+#include <time.h>
 #include <unistd.h>
 
 #include "gameindex.h"
-
-enum { WORD_BYTES = 4 };
+#include "words.h"
 
 int fault(const char *path, const char *form, ...) {
     va_list words;
@@ -24,15 +24,6 @@ int fault(const char *path, const char *form, ...) {
     fputc('\n', stderr);
     va_end(words);
     return EXIT_FAULT;
-}
-
-static uint32_t word_from(const unsigned char *bytes) {
-    return bytes[0] | (uint32_t)bytes[1] << 8 | (uint32_t)bytes[2] << 16 | (uint32_t)bytes[3] << 24;
-}
-
-static void word_to(unsigned char *bytes, uint32_t word) {
-    for (int i = 0; i < WORD_BYTES; i++)
-        bytes[i] = (unsigned char)(word >> 8 * i);
 }
 
 /* Reads length bytes from the start of a file; false with errno set on an
@@ -74,7 +65,7 @@ static bool write_words(int file, const uint32_t *words, size_t first, size_t co
         return false;
     for (size_t i = 0; i < count; i++)
         word_to(bytes + i * WORD_BYTES, words[i]);
-    bool written = write_bytes(file, bytes, count * WORD_BYTES, first * WORD_BYTES) && fsync(file) == 0;
+    bool written = write_bytes(file, bytes, count * WORD_BYTES, first * WORD_BYTES) && fdatasync(file) == 0;
     int kept = errno;
     free(bytes);
     errno = kept;
@@ -108,12 +99,31 @@ static int read_words(struct card_file *card) {
     return status;
 }
 
+/* Keeps the file for this run: for all who read, or for one who writes. A run
+ * that was killed has the file until its last write is through, so this waits a
+ * while. */
+static int lock(const struct card_file *card, bool writable) {
+    enum { TRIES = 20 };
+    const struct timespec pause = {.tv_nsec = 50 * 1000 * 1000};
+    struct flock whole = {.l_type = writable ? F_WRLCK : F_RDLCK, .l_whence = SEEK_SET};
+    for (int i = 0; i < TRIES; i++) {
+        if (fcntl(card->file, F_SETLK, &whole) == 0)
+            return EXIT_DONE;
+        if (errno != EACCES && errno != EAGAIN)
+            return fault(card->path, "%s", strerror(errno));
+        nanosleep(&pause, NULL);
+    }
+    return fault(card->path, "in use by another run");
+}
+
 int card_open(struct card_file *card, const char *path, bool writable) {
     *card = (struct card_file){.path = path};
     card->file = open(path, (writable ? O_RDWR : O_RDONLY) | O_CLOEXEC);
     if (card->file < 0)
         return fault(path, "%s", strerror(errno));
-    int status = read_words(card);
+    int status = lock(card, writable);
+    if (status == EXIT_DONE)
+        status = read_words(card);
     if (status != EXIT_DONE) {
         close(card->file);
         free(card->words);

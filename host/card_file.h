@@ -22,9 +22,10 @@ struct card_file {
 /* Says on stderr what is wrong with a file, and gives EXIT_FAULT. */
 int fault(const char *path, const char *form, ...);
 
-/* Opens a card file and reads its words. Of a file longer than the largest card
- * one word more than that is read: every call of the library gives the same
- * number for all such lengths. */
+/* Opens a card file and reads its words. Until it is closed no other run may
+ * write it, nor read it where this one may write. Of a file longer than the
+ * largest card one word more than that is read: every call of the library gives
+ * the same number for all such lengths. */
 int card_open(struct card_file *card, const char *path, bool writable);
 
 /* Writes count words from word first on back to their place in the file; they

@@ -12,52 +12,11 @@
 #include <string.h>
 #include <unistd.h>
 
+#include "apply.h"
 #include "card_file.h"
 #include "gameindex.h"
-
-/* ---- numbers */
-
-/* The meaning of each number, in plain words. */
-static const char *const meanings[] = {
-    [GI_DONE] = "sound",
-    [GI_CARD_LENGTH] = "the card has not the length that its block size and places ask for",
-    [GI_CARD_FORMAT] = "the card has an unknown format, or none",
-    [GI_CARD_CONFIGURATION] = "a configuration word is outside its limits",
-    [GI_CARD_BLOCKS] = "a live block, its map entry or the boundary is wrong",
-    [GI_FORMAT_LIMITS] = "B must be from 8 to 1,024 and N from 2 to 1,024",
-};
-
-static const char *meaning(uint32_t number) {
-    return number < sizeof meanings / sizeof *meanings ? meanings[number] : "a number without a meaning here";
-}
-
-/* Shows a refusal's number and gives the exit status for it. */
-static int refused(const char *path, uint32_t number) {
-    printf("%s: refused, number %" PRIu32 ": %s\n", path, number, meaning(number));
-    return EXIT_REFUSED;
-}
-
-/* Shows the judge's number and gives the exit status for it. */
-static int verdict(const char *path, uint32_t number) {
-    printf("%s: %" PRIu32 ", %s\n", path, number, meaning(number));
-    return number == GI_DONE ? EXIT_DONE : EXIT_REFUSED;
-}
-
-/* A decimal number that fits a word. */
-static bool parse_word(const char *text, uint32_t *word) {
-    uint64_t value = 0;
-    if (*text == '\0')
-        return false;
-    for (; *text != '\0'; text++) {
-        if (*text < '0' || *text > '9')
-            return false;
-        value = 10 * value + (uint64_t)(*text - '0');
-        if (value > UINT32_MAX)
-            return false;
-    }
-    *word = (uint32_t)value;
-    return true;
-}
+#include "lookup.h"
+#include "report.h"
 
 /* ---- format */
 
@@ -118,22 +77,6 @@ static int run_judge(char **words) {
     return status;
 }
 
-static void show_configuration(const uint32_t *card) {
-    static const char *const names[GI_CONFIG_WORDS] = {
-        [GI_CONFIG_FORMAT] = "format",
-        [GI_CONFIG_BLOCK_WORDS] = "B, words of a block",
-        [GI_CONFIG_PLACES] = "N, places",
-        [GI_CONFIG_OLD_START] = "old start",
-        [GI_CONFIG_OLD_LENGTH] = "old length",
-        [GI_CONFIG_NEW_LENGTH] = "new length",
-        [GI_CONFIG_BOUNDARY_TERM] = "boundary term",
-        [GI_CONFIG_BOUNDARY_POSITION] = "boundary position",
-    };
-    printf("\nconfiguration\n");
-    for (size_t i = 0; i < GI_CONFIG_WORDS; i++)
-        printf("  %-20s %10" PRIu32 "\n", names[i], card[i]);
-}
-
 /* Shows the map entries of a segment of a sound card. */
 static void show_segment(const uint32_t *card, const char *name, uint32_t start, uint32_t length) {
     for (uint32_t i = 0; i < length; i++) {
@@ -177,14 +120,17 @@ struct command {
     const char *name;
     const char *words;
     int count; /* how many words it takes */
+    int more;  /* how many it may take after them, all or none */
     const char *about;
-    int (*run)(char **words);
+    int (*run)(char **words); /* the words, and NULL after them */
 };
 
 static const struct command commands[] = {
-    {"format", "CARD B N", 3, "make an empty index of N places of B words", run_format},
-    {"judge", "CARD", 1, "say whether the card is sound", run_judge},
-    {"show", "CARD", 1, "show the configuration words and the live places", run_show},
+    {"format", "CARD B N", 3, 0, "make an empty index of N places of B words", run_format},
+    {"apply", "CARD BATCH", 2, 0, "apply a file of batch words, or - for standard input", run_apply},
+    {"lookup", "CARD TERM [FROM TO]", 2, 2, "show a term's running numbers, all or those in a range", run_lookup},
+    {"judge", "CARD", 1, 0, "say whether the card is sound", run_judge},
+    {"show", "CARD", 1, 0, "show the configuration words and the live places", run_show},
 };
 
 enum { COMMANDS = sizeof commands / sizeof *commands };
@@ -192,7 +138,9 @@ enum { COMMANDS = sizeof commands / sizeof *commands };
 static void usage(FILE *out) {
     fprintf(out, "usage: gameindex COMMAND CARD ...\n\n");
     for (int i = 0; i < COMMANDS; i++)
-        fprintf(out, "  %-7s %-10s %s\n", commands[i].name, commands[i].words, commands[i].about);
+        fprintf(out, "  %-7s %-20s %s\n", commands[i].name, commands[i].words, commands[i].about);
+    fprintf(out, "\nfiles are 32-bit words, little-endian; a batch is records of four: kind (1 adds, 2 removes),\n"
+                 "term, from, to, by term, then from; an addition has from and to alike\n");
     fprintf(out, "\nexit status: 0 done, 1 refused (the number is shown), 2 a fault of the file or the command line\n");
 }
 
@@ -201,9 +149,11 @@ static int run_command(int count, char **words) {
         usage(stdout);
         return EXIT_DONE;
     }
-    for (int i = 0; count > 0 && i < COMMANDS; i++)
-        if (strcmp(words[0], commands[i].name) == 0 && count - 1 == commands[i].count)
+    for (int i = 0; count > 0 && i < COMMANDS; i++) {
+        int left_over = count - 1 - commands[i].count;
+        if (strcmp(words[0], commands[i].name) == 0 && (left_over == 0 || left_over == commands[i].more))
             return commands[i].run(words + 1);
+    }
     usage(stderr);
     return EXIT_FAULT;
 }

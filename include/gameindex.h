@@ -4,8 +4,9 @@
  * each place, then the places of B words each. Lengths are counts of words.
  * Every call takes any card, whatever its words and its length: what is wrong
  * with it comes back as a number, and a refused call writes nothing. A pointer
- * stands for as many words as the length beside it says, and is never NULL,
- * not even where that length is 0.
+ * stands for as many words as the length beside it says, one word where there is
+ * none, and is never NULL, not even where that length is 0. Words that a call
+ * may write are lent to it only once.
  */
 #ifndef GAMEINDEX_H
 #define GAMEINDEX_H
@@ -24,7 +25,12 @@ enum {
     GI_CARD_FORMAT = 2,        /* the first word is not a known format */
     GI_CARD_CONFIGURATION = 3, /* configuration words outside their limits */
     GI_CARD_BLOCKS = 4,        /* a live block, its map entry or the boundary is wrong */
-    GI_FORMAT_LIMITS = 5       /* the formatter's B or N is outside its limits */
+    GI_FORMAT_LIMITS = 5,      /* the formatter's B or N is outside its limits */
+    GI_BATCH_RECORD = 6,       /* a length that is no records, too many of them, or a record that is none */
+    GI_BATCH_ORDER = 7,        /* the records fall from one to the next */
+    GI_CARD_FULL = 8,          /* the step would leave no place free */
+    GI_LOOKUP_RANGE = 9,       /* term or from is 0, or from is above to */
+    GI_LOOKUP_ANSWER = 10      /* fewer answer words than positions */
 };
 
 /* The limits of a card. */
@@ -38,6 +44,25 @@ enum {
     GI_PLACES_MAX = 1024,
     GI_CARD_WORDS_MAX = 1050632 /* the largest card: B and N both 1,024 */
 };
+
+/* The records of a batch: kind, term, from, to. */
+enum {
+    GI_RECORD_WORDS = 4,
+    GI_BATCH_RECORDS_MAX = 4096,
+    GI_RECORD_ADD = 1,   /* adds the pair of term and from; to is from again */
+    GI_RECORD_REMOVE = 2 /* removes the term's positions from from to to */
+};
+
+/* The writes of a pass; a step makes one of them. */
+enum {
+    GI_WRITE_BLOCK = 1,        /* the B words of the due place, the one after the new segment */
+    GI_WRITE_MAP_ENTRY = 2,    /* the two map words of the due place */
+    GI_WRITE_CONFIGURATION = 3 /* configuration words; they are written as one */
+};
+
+/* The range of all positions, and of all terms. */
+#define GI_LOWEST ((uint32_t)1)
+#define GI_HIGHEST UINT32_MAX
 
 /* Where each configuration word stands. */
 enum {
@@ -68,6 +93,35 @@ uint32_t gi_format(uint32_t *card, size_t card_len, uint32_t b, uint32_t n);
  * or boundary words that cannot be (3); live blocks that are wrong (4). Gives 0
  * for a sound card. Words of free places are never judged. */
 uint32_t gi_judge(const uint32_t *card, size_t card_len);
+
+/* Makes the next write of a pass that applies a batch, and tells which it was.
+ * The batch is records of four words, by term, then from, never falling: the
+ * index less all that they remove, with all that they add. The card is all that
+ * a pass remembers: call it with the same batch until it says finished. Each
+ * write must be on the medium before the next step's; a pass cut short anywhere
+ * goes on where it was.
+ *
+ * Gives the judge's number for a card that is not sound; then 6, then 7 for a
+ * batch that is none; then 8 where the write of the configuration words to come
+ * would leave no place free. After a refusal write, freed and finished are 0 and
+ * no word of the card has changed. Otherwise gives 0; write is one of the three
+ * writes, and with the third, freed is the number of old places that it freed
+ * and finished is 1 where the pass is done. They are 0 in all other cases. */
+uint32_t gi_step(uint32_t *card, size_t card_len, const uint32_t *batch, size_t batch_len, uint32_t *write,
+                 uint32_t *freed, uint32_t *finished);
+
+/* Looks up the positions of a term from from to to, both included. They come
+ * rising in the first answer words, their number in found; other answer words
+ * are left as they are. blocks is the number of blocks that the map names for
+ * the question, at most two more than hold a position of the answer.
+ *
+ * Gives the judge's number for a card that is not sound; then 9 where term or
+ * from is 0 or from is above to; then 10 where there are more positions than
+ * answer_len. After a refusal found and blocks are 0 and no answer word has
+ * changed. Gives 0 otherwise. Writes nothing to the card. An answer of as many
+ * words as the card has is never too short. */
+uint32_t gi_lookup(const uint32_t *card, size_t card_len, uint32_t term, uint32_t from, uint32_t to, uint32_t *answer,
+                   size_t answer_len, uint32_t *found, uint32_t *blocks);
 
 #ifdef __cplusplus
 }

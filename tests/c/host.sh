@@ -1,9 +1,12 @@
 #!/usr/bin/env bash
-# Tests the host program on card files in a temporary folder: host.sh PROGRAM
+# Tests the host program on card files in a temporary folder: host.sh PROGRAM CUT
+# CUT is its test build whose file writes can fail as with the power (power_cut.c).
 # Prints each failing check and, as its last line, 'N passed, M failed'.
 set -u
 export LC_ALL=C
-program=$(readlink -f -- "${1:?usage: host.sh PROGRAM}")
+program=$(readlink -f -- "${1:?usage: host.sh PROGRAM CUT}")
+cut=$(readlink -f -- "${2:?usage: host.sh PROGRAM CUT}")
+to_words=$(readlink -f -- "$(dirname -- "$0")/words.sh")
 room=$(mktemp -d) || exit 1
 trap 'rm -rf "$room"' EXIT
 cd "$room" || exit 1
@@ -88,6 +91,183 @@ head -c 8 /dev/zero >>longer.card
 run 1 'judge a file longer than any card' judge longer.card
 check 'it names number 1' grep -q ': 1, ' out
 
+# ---- apply
+
+batch() { "$to_words" "${@:2}" >"$1"; } # FILE WORDS..: makes a batch file
+configuration() { words "$1" 0 | cut -d' ' -f2-9; }
+# the live pairs of a sound card, rising, 'term position' to a line
+pairs() {
+    "$program" judge "$1" >/dev/null || { echo 'not sound' && return; }
+    od -An -v -tu4 --endian=little -w4 "$1" | awk '
+        { w[NR - 1] = $1 + 0 }
+        function segment(start, count, above_term, above_position,    i, at, end, k) {
+            for (i = 0; i < count; i++) {
+                at = 8 + 2 * w[2] + (start + i) % w[2] * w[1]; end = at + w[1]
+                for (; end - at >= 3 && w[at] != 0; at += 2 + w[at + 1])
+                    for (k = 0; k < w[at + 1]; k++)
+                        if (w[at] > above_term || (w[at] == above_term && w[at + 2 + k] > above_position))
+                            print w[at], w[at + 2 + k]
+            }
+        }
+        END { segment(w[3] + w[4], w[5], 0, 0); segment(w[3], w[4], w[6], w[7]) }'
+}
+
+run 0 'format a card to apply to' format case.card 8 4
+batch one.batch 1 5 2 2 1 5 9 9 1 7 4 4
+run 0 'apply three additions' apply case.card one.batch
+check 'three steps and their writes' grep -q 'finished; 3 steps, as many writes (1 block, 1 map entry, 1 configuration)' out
+check 'the configuration is shown' grep -Eq '^ +old length +1$' out
+check 'no progress where there is no terminal' [ ! -s err ]
+check 'the words of case 1' [ "$(words case.card 0)" = " 1 8 4 0 1 0 0 0 5 2 0 0 0 0 0 0 5 2 2 9 7 1 4 0 $(yes 0 | head -n 24 | tr '\n' ' ')" ]
+cp case.card case1.card
+batch more.batch 1 8 1 1
+run 0 'apply from standard input' apply case.card - <more.batch
+check 'two blocks and a place freed' grep -q '6 steps, as many writes (2 blocks, 2 map entries, 2 configurations); 1 old place freed' out
+check 'the configuration of case 3' [ "$(configuration case.card)" = '1 8 4 1 2 0 0 0' ]
+check 'its pairs' [ "$(pairs case.card)" = $'5 2\n5 9\n7 4\n8 1' ]
+: >none.batch
+run 0 'apply no records' apply case.card none.batch
+check 'its pairs stand' [ "$(pairs case.card)" = $'5 2\n5 9\n7 4\n8 1' ]
+batch all.batch 2 5 1 4294967295 2 7 1 4294967295 2 8 1 1
+run 0 'apply removals of everything' apply case.card all.batch
+check 'one step' grep -q 'finished; 1 step, as many writes (0 blocks, 0 map entries, 1 configuration)' out
+check 'no pairs' [ -z "$(pairs case.card)" ]
+script -qec "'$program' apply case.card one.batch" /dev/null >out </dev/null
+check 'progress on a terminal' grep -q 'step 1: new length 0, old length' out
+
+# each write is the step's, in its order, and synced before the next
+cp case1.card log.card
+WRITE_LOG=log "$cut" apply log.card more.batch >out
+check 'the writes of case 3' [ "$(tr '\n' ',' <log)" = \
+    'write 96 32,sync,write 40 8,sync,write 0 32,sync,write 128 32,sync,write 48 8,sync,write 0 32,sync,' ]
+
+# refusals: shown with their number, and the file stands
+refused() { # NUMBER WHAT CARD BATCH
+    cp "$3" before.card
+    run 1 "$2" apply "$3" "$4"
+    check "$2: it names number $1" grep -q "number $1:" out
+    check "$2: the card stands" cmp -s "$3" before.card
+}
+batch part.batch 1 5 2
+refused 6 'a batch of three words' case1.card part.batch
+batch kind.batch 3 5 2 2
+refused 6 'a record of no kind' case1.card kind.batch
+cp more.batch most.batch # an addition again and again
+for _ in $(seq 12); do cat most.batch most.batch >twice.batch && mv twice.batch most.batch; done
+cat most.batch more.batch >many.batch
+refused 6 'a batch of 4,097 records' case1.card many.batch
+run 0 'a batch of 4,096 records' apply case.card most.batch
+batch order.batch 1 7 4 4 1 5 2 2
+refused 7 'records that fall' case1.card order.batch
+refused 4 'a card that is not sound' live.card one.batch
+refused 1 'an empty card' empty.card one.batch
+
+# a card that is full: what was reached is shown, and an empty batch finishes
+run 0 'format a card of two places' format two.card 8 2
+run 0 'fill it' apply two.card one.batch
+run 1 'apply to the full card' apply two.card more.batch
+check 'it names number 8' grep -q 'number 8:' out
+check 'it shows what was done' grep -q 'stopped; 3 steps' out
+check 'it shows what was reached' grep -q 'reached term 7, position 4;' out
+check 'the configuration of case 4' [ "$(configuration two.card)" = '1 8 2 1 0 1 7 4' ]
+refused 8 'apply again' two.card more.batch
+run 0 'the empty batch' apply two.card none.batch
+check 'the configuration of case 4 at its end' [ "$(configuration two.card)" = '1 8 2 1 1 0 0 0' ]
+batch front.batch 1 4 1 1
+refused 8 'a block in front that frees none' two.card front.batch
+check 'it says that no pass is open' grep -q 'no pass is open' out
+
+# ---- lookup
+
+lookup() { # ANSWER COUNTS WHAT CARD TERM..: the answer, one number to a line, then the counts
+    run 0 "$3" lookup "${@:4}"
+    check "$3: the answer" [ "$(sed '$d' out | tr '\n' ' ')" = "$1" ]
+    check "$3: the counts" grep -q ": $2\$" <(tail -n 1 out)
+}
+cp case1.card before.card
+lookup '2 9 ' '2 positions, 1 block read' 'look up 5' case1.card 5
+check 'the whole range is named' grep -q 'term 5 from 1 to 4294967295:' out
+lookup '2 9 ' '2 positions, 1 block read' 'look up 5 from 1 to 9' case1.card 5 1 9
+lookup '' '0 positions, 1 block read' 'look up 5 from 3 to 8' case1.card 5 3 8
+lookup '' '0 positions, 0 blocks read' 'look up 4 from 1 to 9' case1.card 4 1 9
+lookup '' '0 positions, 1 block read' 'look up 6 from 1 to 9' case1.card 6 1 9
+lookup '9 ' '1 position, 1 block read' 'look up 5 from 9 to the highest' case1.card 5 9 4294967295
+lookup '' '0 positions, 0 blocks read' 'look up in an empty index' new.card 5
+run 1 'look up term 0' lookup case1.card 0
+check 'it names number 9' grep -q 'number 9:' out
+run 1 'look up from 0' lookup case1.card 5 0 9
+run 1 'look up from above to' lookup case1.card 5 9 8
+run 1 'look up in a damaged card' lookup live.card 5
+check 'it names number 4' grep -q 'number 4:' out
+run 1 'look up in an empty file' lookup empty.card 5
+check 'lookups change nothing' cmp -s case1.card before.card
+
+# one run at a time writes a card, and none reads it meanwhile
+mkfifo wait.batch
+"$program" apply case1.card - <wait.batch >/dev/null 2>&1 &
+waiting=$!
+exec 3>wait.batch # its standard input, open for as long as this is
+for _ in $(seq 100); do
+    "$program" judge case1.card >/dev/null 2>&1
+    if [ $? -eq 2 ]; then break; fi
+    sleep 0.1
+done
+run 2 'judge a card in use' judge case1.card
+run 2 'look up in a card in use' lookup case1.card 5
+run 2 'apply to a card in use' apply case1.card one.batch
+check 'the message names the use' grep -q 'in use' err
+exec 3>&-
+check 'the run that waited goes on' wait "$waiting"
+
+# ---- the power fails at each write of a pass
+
+# Applies a batch to copies of a card, with the power failing at each of the
+# pass's writes in each way, and then once more, uncut.
+cuts() { # WHAT CARD BATCH PAIRS
+    local what=$1 card=$2 batch=$3 expected=$4 writes write how
+    rm -f log && cp "$card" cut.card
+    WRITE_LOG=log "$cut" apply cut.card "$batch" >out
+    check "$what: uncut" [ "$(pairs cut.card)" = "$expected" ]
+    writes=$(grep -c write log)
+    check "$what: its writes" [ "${writes:-0}" -gt 0 ]
+    for write in $(seq "${writes:-0}"); do
+        for how in before torn half after synced; do
+            cp "$card" cut.card
+            { CUT_WRITE=$write CUT_HOW=$how "$cut" apply cut.card "$batch" >out; } 2>/dev/null
+            check "$what: killed at write $write, $how" [ $? -eq 137 ]
+            run 0 "$what: sound after write $write, $how" judge cut.card
+            run 0 "$what: again after write $write, $how" apply cut.card "$batch"
+            check "$what: the pairs after write $write, $how" [ "$(pairs cut.card)" = "$expected" ]
+        done
+    done
+
+    # one write to a run, each with its power failing
+    for how in torn after; do
+        cp "$card" cut.card
+        for write in $(seq "${writes:-0}"); do
+            { CUT_WRITE=1 CUT_HOW=$how "$cut" apply cut.card "$batch" >out; } 2>/dev/null
+            check "$what: killed again and again, $how" [ $? -eq 137 ]
+            run 0 "$what: sound all the time, $how" judge cut.card
+        done
+        run 0 "$what: in the end, $how" apply cut.card "$batch"
+        check "$what: the pairs in the end, $how" [ "$(pairs cut.card)" = "$expected" ]
+    done
+}
+
+run 0 'format a card for the cuts' format grow.card 8 6
+head -c 192 /dev/zero | tr '\0' '\125' | dd of=grow.card bs=4 seek=20 conv=notrunc status=none # words of another life
+batch grow.batch 1 5 2 2 1 5 9 9 1 7 4 4 1 8 1 1 1 8 2 2 1 8 3 3
+cuts 'growth' grow.card grow.batch $'5 2\n5 9\n7 4\n8 1\n8 2\n8 3'
+run 0 'grow' apply grow.card grow.batch
+lookup '1 2 3 ' '3 positions, 1 block read' 'look up what was added' grow.card 8
+batch change.batch 1 1 1 1 2 5 1 5 1 7 9 9 2 8 2 2 1 8 9 9 2 9 1 7
+cuts 'change around the circle' grow.card change.batch $'1 1\n5 9\n7 4\n7 9\n8 1\n8 3\n8 9'
+run 0 'change' apply grow.card change.batch
+batch shrink.batch 2 5 1 99 2 7 1 99 2 8 1 8
+cuts 'shrinking' grow.card shrink.batch $'1 1\n8 9'
+batch end.batch 2 1 1 1 2 5 1 99 2 7 1 99 2 8 1 99
+cuts 'removal of everything' grow.card end.batch ''
+
 # faults of files and of the command line go to stderr
 run 2 'judge a file that is not there' judge none.card
 check 'the message is on stderr' [ -s err -a ! -s out ]
@@ -99,6 +279,18 @@ run 2 'B that is no number' format new2.card 8x 4
 run 2 'N over 32 bits' format new2.card 8 4294967298
 run 2 'a word missing' format new2.card 8
 check 'no file is made' [ ! -e new2.card ]
+run 2 'apply to a file that is not there' apply none.card one.batch
+run 2 'apply a batch that is not there' apply new.card none/one.batch
+run 2 'apply a folder' apply new.card .
+run 2 'apply three bytes' apply new.card odd.card
+run 2 'apply without a batch' apply new.card
+run 2 'look up a term that is no number' lookup case1.card five
+run 2 'look up a term over 32 bits' lookup case1.card 4294967296
+run 2 'look up to no number' lookup case1.card 5 1 -9
+run 2 'look up without a term' lookup case1.card
+run 2 'look up with half a range' lookup case1.card 5 1
+run 2 'look up with a word too many' lookup case1.card 5 1 9 9
+run 2 'look up in a file that is not there' lookup none.card 5
 run 2 'an unknown command' frobnicate new.card
 run 2 'no command'
 run 0 'help' help

@@ -10,8 +10,13 @@
 
 #include "gameindex.h"
 
-static int passed;
-static int failed;
+extern int passed;
+extern int failed;
+
+/* The tests, by the functions that they call. */
+void test_format_judge(void);
+void test_step(void);
+void test_lookup(void);
 
 static inline void check(bool holds, const char *group, const char *what) {
     if (holds) {
@@ -78,6 +83,39 @@ static inline size_t place_word(uint32_t place, uint32_t at) {
 
 static inline size_t map_word(uint32_t place, uint32_t at) {
     return MAP + GI_MAP_ENTRY_WORDS * place + at;
+}
+
+/* ---- the cards of the small cases */
+
+/* Case 1, finished: (5,2), (5,9), (7,4) at place 0. */
+static inline struct card case1(void) {
+    return WITH(CARD(1, 8, 4, 0, 1, 0, 0, 0), 0, 5, 2, 2, 9, 7, 1, 4, 0);
+}
+
+/* Case 2, finished: (7,11) added; the block at place 1 is full. */
+static inline struct card case2(void) {
+    struct card card = WITH(CARD(1, 8, 4, 1, 1, 0, 0, 0), 0, 5, 2, 2, 9, 7, 1, 4, 0);
+    return WITH(card, 1, 5, 2, 2, 9, 7, 2, 4, 11);
+}
+
+/* Case 3, in mid-pass: the first new block landed and freed the old one. */
+static inline struct card case3_open(void) {
+    struct card card = WITH(CARD(1, 8, 4, 1, 0, 1, 7, 4), 0, 5, 2, 2, 9, 7, 1, 4, 0);
+    return WITH(card, 1, 5, 2, 2, 9, 7, 1, 4, 0);
+}
+
+/* Case 3, finished: (8,1) added, a second block at place 2. */
+static inline struct card case3(void) {
+    struct card card = WITH(CARD(1, 8, 4, 1, 2, 0, 0, 0), 1, 5, 2, 2, 9, 7, 1, 4, 0);
+    return WITH(card, 2, 8, 1, 1, 0, 0, 0, 0, 0);
+}
+
+/* A pass open around the circle: old places 3 and 0, new place 1, free place 2.
+ * The first old block holds (2,1), which is the boundary, and pairs above it. */
+static inline struct card wrapped(void) {
+    struct card card = WITH(CARD(1, 8, 4, 3, 2, 1, 2, 1), 3, 2, 2, 1, 5, 3, 1, 1, 0);
+    card = WITH(card, 0, 4, 1, 9, 0, 0, 0, 0, 0);
+    return WITH(card, 1, 1, 2, 1, 2, 2, 1, 1, 0);
 }
 
 /* Judges a card, and sees that judging changed none of its words. */

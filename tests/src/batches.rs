@@ -1,8 +1,9 @@
 // Makers of batches: good ones over a small universe of terms and positions, and bad ones.
 
+use crate::cards;
 use crate::random::Random;
 use crate::second::batch::{Record, ADD, MOST_RECORDS, REMOVE};
-use crate::second::judge_batch;
+use crate::second::{judge_batch, Configuration, Pair, HIGHEST, LOWEST};
 
 /// The terms and positions a test draws from, so that pairs meet often.
 #[derive(Clone, Debug)]
@@ -135,6 +136,63 @@ pub fn good(random: &mut Random, universe: &Universe, mixture: Mixture, most: us
     let batch = words(records);
     assert_eq!(judge_batch(&batch), 0);
     batch
+}
+
+/// A batch that is judged 0, its records at the pairs of a sound card and next to them: at the ends
+/// of blocks, at the boundary, at old pairs that are no longer live, at the bounds of all pairs.
+pub fn near(random: &mut Random, card: &[u32], mixture: Mixture, most: usize) -> Vec<u32> {
+    let known = known_pairs(card);
+    let mut records = Vec::new();
+    for _ in 0..random.below(most + 1) {
+        let (mut term, position) = random.pick(&known);
+        if random.chance(1, 8) {
+            term = beside(random, term);
+        }
+        let from = if random.chance(1, 2) {
+            position
+        } else {
+            beside(random, position)
+        };
+        let adds = match mixture {
+            Mixture::Additions => true,
+            Mixture::Removals => false,
+            Mixture::Both => random.chance(1, 2),
+        };
+        if adds {
+            records.push(addition(term, from));
+        } else {
+            let to = match random.below(5) {
+                0 => from,
+                1 => from.saturating_add(1),
+                2 => u32::MAX,
+                _ => random.pick(&known).1.max(from),
+            };
+            records.push(removal(term, from, to));
+        }
+    }
+    let batch = words(records);
+    assert_eq!(judge_batch(&batch), 0);
+    batch
+}
+
+fn beside(random: &mut Random, word: u32) -> u32 {
+    if random.chance(1, 2) {
+        word.saturating_add(1)
+    } else {
+        word.saturating_sub(1).max(1)
+    }
+}
+
+/// All pairs of a sound card's live blocks, live or not, the boundary, and the bounds of all pairs.
+fn known_pairs(card: &[u32]) -> Vec<Pair> {
+    let mut known = vec![LOWEST, HIGHEST];
+    known.extend(Configuration::read(card).boundary());
+    for pairs in cards::block_pairs(card) {
+        // The ends of a block count double.
+        known.extend([pairs[0], pairs[pairs.len() - 1]]);
+        known.extend(pairs);
+    }
+    known
 }
 
 /// A batch that is judged 6 or 7.

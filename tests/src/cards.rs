@@ -107,6 +107,18 @@ pub fn put_words(card: &mut [u32], configuration: &Configuration, place: usize, 
     card[configuration.map_range(place)].copy_from_slice(&first);
 }
 
+/// The pairs of all live blocks of a sound card, live or not, old segment before new.
+pub fn block_pairs(card: &[u32]) -> Vec<Vec<Pair>> {
+    let configuration = Configuration::read(card);
+    let places = configuration
+        .old_places()
+        .into_iter()
+        .chain(configuration.new_places());
+    places
+        .map(|place| second::layout::block_pairs(&configuration, card, place))
+        .collect()
+}
+
 /// A sound card that steps need not reach: its blocks are seldom filled as far as they could be.
 pub fn loose(random: &mut Random, b: u32, n: u32) -> Vec<u32> {
     let live = if random.chance(1, 2) {

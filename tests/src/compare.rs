@@ -2,7 +2,7 @@
 
 use crate::ffi;
 use crate::random::Random;
-use crate::second;
+use crate::second::{self, Configuration, LookupAnswer, StepAnswer};
 
 /// How often each number came out of a test's comparisons.
 #[derive(Clone, Debug, Default)]
@@ -123,4 +123,291 @@ pub fn format(tally: &mut Tally, random: &mut Random, card: &[u32], b: u32, n: u
     }
     assert!(memory[GUARD..end] == expected_card[..], "{}", about());
     tally.note(number);
+}
+
+/// What the compared steps met: how often each number, write and shape came.
+#[derive(Clone, Debug, Default)]
+pub struct Steps {
+    numbers: Tally,
+    pub writes: [u64; 4],
+    pub going_on: u64,
+    pub finished: u64,
+    pub nothing_remained: u64,
+    pub freed_in_mid_pass: u64,
+    pub freed_several: u64,
+    pub freed_all_in_mid_pass: u64,
+    pub began_in_mid_pass: u64,
+    pub due_place_before_old_start: u64,
+    pub on_full_cards: u64,
+    pub passes: u64,
+    pub passes_at_the_limit: u64,
+}
+
+impl Steps {
+    pub fn new() -> Steps {
+        Steps::default()
+    }
+
+    pub fn of(&self, number: u32) -> u64 {
+        self.numbers.of(number)
+    }
+
+    pub fn total(&self) -> u64 {
+        self.numbers.total()
+    }
+
+    /// Prints the test's lines.
+    pub fn report(&self, test: &str) {
+        self.numbers.report(test);
+        println!(
+            "{test}: writes 1 to 3 {:?}, going on {}, finished {}, nothing remained {}, freed in \
+             mid-pass {}, several {}, all {}; in mid-pass {}, due place before old start {}, full \
+             {}; whole passes {}, at the limit {}",
+            &self.writes[1..],
+            self.going_on,
+            self.finished,
+            self.nothing_remained,
+            self.freed_in_mid_pass,
+            self.freed_several,
+            self.freed_all_in_mid_pass,
+            self.began_in_mid_pass,
+            self.due_place_before_old_start,
+            self.on_full_cards,
+            self.passes,
+            self.passes_at_the_limit
+        );
+    }
+
+    /// Fails unless each of these numbers came at least `least` times.
+    pub fn expect(&self, numbers: &[u32], least: u64) {
+        self.numbers.expect(numbers, least);
+    }
+
+    /// Fails unless every kind of write and every shape came at least `least` times.
+    pub fn expect_every_shape(&self, least: u64) {
+        for count in [
+            self.writes[1],
+            self.writes[2],
+            self.writes[3],
+            self.going_on,
+            self.finished,
+            self.nothing_remained,
+            self.freed_in_mid_pass,
+            self.freed_several,
+            self.freed_all_in_mid_pass,
+            self.began_in_mid_pass,
+            self.due_place_before_old_start,
+            self.on_full_cards,
+        ] {
+            assert!(count >= least, "a shape came {count} times: {self:?}");
+        }
+    }
+
+    fn note(&mut self, before: &[u32], after: &[u32], answer: &StepAnswer) {
+        self.numbers.note(answer.number);
+        if answer.number != 0 {
+            return;
+        }
+        let configuration = Configuration::read(before);
+        let live = configuration.old_length + configuration.new_length;
+        self.writes[answer.write as usize] += 1;
+        self.began_in_mid_pass += u64::from(configuration.new_length > 0);
+        self.on_full_cards += u64::from(live == configuration.n - 1);
+        let around = configuration.due_place() < configuration.old_start as usize;
+        self.due_place_before_old_start += u64::from(around);
+        if answer.write == 3 {
+            let on = !answer.finished;
+            self.going_on += u64::from(on);
+            self.finished += u64::from(answer.finished);
+            self.freed_in_mid_pass += u64::from(on && answer.freed > 0);
+            self.freed_several += u64::from(on && answer.freed > 1);
+            let all = on && answer.freed > 0 && answer.freed == configuration.old_length;
+            self.freed_all_in_mid_pass += u64::from(all);
+            let kept = answer.finished && after[4] == configuration.new_length;
+            self.nothing_remained += u64::from(kept);
+        }
+    }
+}
+
+/// A slice's words with guard words before and after them.
+struct Guarded {
+    words: Vec<u32>,
+}
+
+impl Guarded {
+    fn new(inside: &[u32]) -> Guarded {
+        let mut words = Vec::with_capacity(inside.len() + 2 * GUARD);
+        words.extend((0..GUARD as u32).map(|i| 0x5EED_0000 + i));
+        words.extend_from_slice(inside);
+        words.extend((0..GUARD as u32).map(|i| 0xFACE_0000 + i));
+        Guarded { words }
+    }
+
+    fn inside(&mut self) -> &mut [u32] {
+        let end = self.words.len() - GUARD;
+        &mut self.words[GUARD..end]
+    }
+
+    fn guards_stand(&self) -> bool {
+        let before = self.words[..GUARD].iter();
+        let after = self.words[self.words.len() - GUARD..].iter();
+        before.zip(0..).all(|(&word, i)| word == 0x5EED_0000 + i)
+            && after.zip(0..).all(|(&word, i)| word == 0xFACE_0000 + i)
+    }
+}
+
+/// Both steps give the same answer and leave the same card, word for word; a refused one leaves
+/// every word; the batch and the words around the card stay. The card is left as after the step.
+pub fn step(
+    steps: &mut Steps,
+    card: &mut [u32],
+    batch: &[u32],
+    about: &dyn Fn() -> String,
+) -> StepAnswer {
+    let mut expected_card = card.to_vec();
+    let expected = second::step(&mut expected_card, batch);
+    let mut lent = Guarded::new(card);
+    let mut lent_batch = Guarded::new(batch);
+    let answer = ffi::step(lent.inside(), lent_batch.inside());
+    let message = || {
+        format!(
+            "{}; a card of {} words: {}; a batch of {} words: {}",
+            about(),
+            card.len(),
+            shown(card),
+            batch.len(),
+            shown(batch)
+        )
+    };
+    assert_eq!(
+        answer,
+        expected,
+        "step gave the left, the second program the right; {}",
+        message()
+    );
+    if answer.number != 0 {
+        let counts = (answer.write, answer.freed, answer.finished);
+        assert_eq!(counts, (0, 0, false), "counts of a refusal; {}", message());
+        assert!(
+            lent.inside() == &card[..],
+            "a refused step changed words; {}",
+            message()
+        );
+    }
+    if lent.inside() != &expected_card[..] {
+        let words = lent.inside().iter().zip(&expected_card);
+        let word = words.take_while(|(one, other)| one == other).count();
+        panic!(
+            "after step's write {} word {word} is {}, the second program's {}; {}",
+            answer.write,
+            lent.inside()[word],
+            expected_card[word],
+            message()
+        );
+    }
+    assert!(lent.guards_stand(), "step wrote outside; {}", message());
+    let batch_kept = lent_batch.inside() == batch && lent_batch.guards_stand();
+    assert!(batch_kept, "step changed its batch; {}", message());
+    steps.note(card, &expected_card, &answer);
+    card.copy_from_slice(&expected_card);
+    answer
+}
+
+/// Runs one batch until its pass finishes or a step is refused, each step compared; checks the step
+/// limit and, where the pass finished, that the batch was applied. Gives the last number.
+pub fn pass(steps: &mut Steps, card: &mut [u32], batch: &[u32], about: &dyn Fn() -> String) -> u32 {
+    let limit = second::step_limit(second::blocks_filled(card, batch));
+    let mut wanted = second::what_remains(card, batch);
+    if let Some(boundary) = Configuration::read(card).boundary() {
+        let moved = second::live_pairs(card);
+        wanted.extend(moved.range(..=boundary));
+    }
+    for taken in 1.. {
+        assert!(taken <= limit, "beyond the step limit; {}", about());
+        let answer = step(steps, card, batch, about);
+        if answer.number != 0 {
+            return answer.number;
+        }
+        if answer.finished {
+            let index = second::live_pairs(card);
+            assert!(index == wanted, "another index at the end; {}", about());
+            steps.passes += 1;
+            steps.passes_at_the_limit += u64::from(taken == limit);
+            return 0;
+        }
+    }
+    unreachable!()
+}
+
+/// A term, from and to.
+pub type Question = (u32, u32, u32);
+
+/// Both lookups give the same answer and leave the same answer words, the ones not needed as they
+/// were; a refused one leaves them all; card, and words around the answer words, stay.
+pub fn lookup(
+    tally: &mut Tally,
+    card: &[u32],
+    (term, from, to): Question,
+    answer: &[u32],
+    about: &dyn Fn() -> String,
+) -> LookupAnswer {
+    let mut expected_words = answer.to_vec();
+    let expected = second::lookup(card, term, from, to, &mut expected_words);
+    let before = card.to_vec();
+    let mut lent = Guarded::new(answer);
+    let reply = ffi::lookup(card, term, from, to, lent.inside());
+    let message = || {
+        format!(
+            "{}; term {term} from {from} to {to}, {} answer words; a card of {} words: {}",
+            about(),
+            answer.len(),
+            before.len(),
+            shown(&before)
+        )
+    };
+    assert_eq!(
+        reply,
+        expected,
+        "lookup gave the left, the second program the right; {}",
+        message()
+    );
+    if reply.number != 0 {
+        let counts = (reply.count, reply.blocks);
+        assert_eq!(counts, (0, 0), "counts of a refusal; {}", message());
+        assert!(
+            lent.inside() == answer,
+            "a refused lookup changed words; {}",
+            message()
+        );
+    }
+    assert_eq!(lent.inside(), expected_words, "answer words; {}", message());
+    assert!(lent.guards_stand(), "lookup wrote outside; {}", message());
+    assert!(before == card, "lookup changed its card; {}", message());
+    tally.note(reply.number);
+    reply
+}
+
+/// The lookup with just enough answer words, with one too few, and with another number of them.
+/// Gives the answer to the one with just enough.
+pub fn lookups(
+    tally: &mut Tally,
+    random: &mut Random,
+    card: &[u32],
+    question: Question,
+    about: &dyn Fn() -> String,
+) -> LookupAnswer {
+    let (term, from, to) = question;
+    let found = second::PostingReader::open(card, term, from, to).count();
+    if found > 0 {
+        let few = [found - 1, random.below(found)];
+        lookup(tally, card, question, &random.words(few[0]), about);
+        if random.chance(1, 4) {
+            lookup(tally, card, question, &random.words(few[1]), about);
+        }
+    }
+    if random.chance(1, 3) {
+        let more = found + 1 + random.below(6);
+        lookup(tally, card, question, &random.words(more), about);
+    }
+    lookup(tally, card, question, &random.words(found), about)
 }

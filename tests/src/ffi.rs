@@ -1,9 +1,35 @@
 // The C functions under test and safe wrappers over slices.
 
+use crate::lists::Program;
+use crate::second::{LookupAnswer, StepAnswer};
+
+/// What stands in a count's word before the call, so that a word left unwritten is seen.
+const UNWRITTEN: u32 = 0xA5A5_A5A5;
+
 mod c {
     extern "C" {
         pub fn gi_format(card: *mut u32, card_len: usize, b: u32, n: u32) -> u32;
         pub fn gi_judge(card: *const u32, card_len: usize) -> u32;
+        pub fn gi_step(
+            card: *mut u32,
+            card_len: usize,
+            batch: *const u32,
+            batch_len: usize,
+            write: *mut u32,
+            freed: *mut u32,
+            finished: *mut u32,
+        ) -> u32;
+        pub fn gi_lookup(
+            card: *const u32,
+            card_len: usize,
+            term: u32,
+            from: u32,
+            to: u32,
+            answer: *mut u32,
+            answer_len: usize,
+            found: *mut u32,
+            blocks: *mut u32,
+        ) -> u32;
     }
 }
 
@@ -17,4 +43,80 @@ pub fn format(card: &mut [u32], b: u32, n: u32) -> u32 {
 pub fn judge(card: &[u32]) -> u32 {
     // SAFETY: pointer and length are those of one slice lent for reading.
     unsafe { c::gi_judge(card.as_ptr(), card.len()) }
+}
+
+pub fn step(card: &mut [u32], batch: &[u32]) -> StepAnswer {
+    let (mut write, mut freed, mut finished) = (UNWRITTEN, UNWRITTEN, UNWRITTEN);
+    // SAFETY: each pointer and length are those of one slice; the card's is lent for writing, and
+    // the counts are words of this call.
+    let number = unsafe {
+        c::gi_step(
+            card.as_mut_ptr(),
+            card.len(),
+            batch.as_ptr(),
+            batch.len(),
+            &mut write,
+            &mut freed,
+            &mut finished,
+        )
+    };
+    assert!(finished <= 1, "finished is {finished}, neither 0 nor 1");
+    StepAnswer {
+        number,
+        write,
+        freed,
+        finished: finished == 1,
+    }
+}
+
+pub fn lookup(card: &[u32], term: u32, from: u32, to: u32, answer: &mut [u32]) -> LookupAnswer {
+    let (mut count, mut blocks) = (UNWRITTEN, UNWRITTEN);
+    // SAFETY: each pointer and length are those of one slice; the answer's is lent for writing, and
+    // the counts are words of this call.
+    let number = unsafe {
+        c::gi_lookup(
+            card.as_ptr(),
+            card.len(),
+            term,
+            from,
+            to,
+            answer.as_mut_ptr(),
+            answer.len(),
+            &mut count,
+            &mut blocks,
+        )
+    };
+    LookupAnswer {
+        number,
+        count,
+        blocks,
+    }
+}
+
+/// The library under test, for lists of calls.
+pub struct Library;
+
+impl Program for Library {
+    fn format(&self, card: &mut [u32], b: u32, n: u32) -> u32 {
+        format(card, b, n)
+    }
+
+    fn judge(&self, card: &[u32]) -> u32 {
+        judge(card)
+    }
+
+    fn step(&self, card: &mut [u32], batch: &[u32]) -> StepAnswer {
+        step(card, batch)
+    }
+
+    fn lookup(
+        &self,
+        card: &[u32],
+        term: u32,
+        from: u32,
+        to: u32,
+        answer: &mut [u32],
+    ) -> LookupAnswer {
+        lookup(card, term, from, to, answer)
+    }
 }

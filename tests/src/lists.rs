@@ -5,8 +5,7 @@ use crate::cards;
 use crate::random::Random;
 use crate::second::{self, History, LookupAnswer, StepAnswer};
 
-/// A program that can be put to a list. The library under test joins once its step and lookup are
-/// exported: a type in ffi.rs with these four calls is all it takes.
+/// A program that can be put to a list: the second program here, the library under test in ffi.rs.
 pub trait Program {
     fn format(&self, card: &mut [u32], b: u32, n: u32) -> u32;
     fn judge(&self, card: &[u32]) -> u32;

@@ -14,6 +14,7 @@ use Rattle.pair.proofs.Tests.{and-left, and-right, or-left, or-right, or-cases}
 use Rattle.pair.proofs.Order.{proper-rank}
 use Rattle.pair.proofs.FirstOf.{passed}
 use Rattle.batch.specs.Batch.{Update, updates, anyUpdate, adds, applied, illFormed, falls, batchNumber}
+use Rattle.batch.specs.Search.{OfWords}
 use Rattle.batch.proofs.Meaning.{added, Each-applied, rising-applied}
 
 -- the facts behind the number 0
@@ -92,13 +93,6 @@ formed-facts u e =
         let l : u .to ≤ u .from = ltb-false (u .from) (u .to) (rw (eq-eqb (u .kind) 1 i) at f) in
         let m : u .from ≤ u .to = ltb-false (u .to) (u .from) (search (or-left, or-right)) in
         omega arith
-
--- its words are 32-bit words
-pub record OfWords (u : Update) : Type 0 where
-  pub kindWord : u .kind < 4294967296
-  pub termWord : u .term < 4294967296
-  pub fromWord : u .from < 4294967296
-  pub toWord : u .to < 4294967296
 
 -- the updates of a batch of 32-bit words have such words
 pub words-updates : (b : List ℕ) → Words b → EachUpdate OfWords (updates b)

@@ -3,3 +3,4 @@ pub mod Local
 pub mod Meaning
 pub mod Merge
 pub mod Records
+pub mod Search

@@ -1,12 +1,19 @@
 // A batch of updates: records of four words, kind, term, from and to.
 ghost use mathlib.Core.Path.{_≡_};
+ghost use mathlib.Core.Bool.{false};
+ghost use lib.ListN.{drop};
 ghost use Rattle.batch.specs.Batch.{illFormed, batchNumber};
+ghost use Rattle.batch.specs.Batch.{updates, withdrawn, falls};
+ghost use Rattle.batch.specs.Search.{TermStart, nextAddition};
 use pair::Pair;
 
 // The words of a record, and the most words of a batch: 4,096 records.
 const RECORD_WORDS: usize = 4;
 
 const MOST_WORDS: usize = 16_384;
+
+// Ranks of one term lie in one stretch of this many numbers.
+const TERM_STRETCH: u64 = 4_294_967_296;
 
 const ADDS: u32 = 1;
 
@@ -65,4 +72,88 @@ pub fn batch_number(batch: &[u32]) -> u32
         return ORDER_FALLS;
     }
     0
+}
+
+// An addition of the batch: the number of its record, and its pair's rank; the rank is 0 where there is none.
+pub struct Addition {
+    pub at: usize,
+    pub rank: u64,
+}
+
+// The first addition above a rank, from a record on.
+pub fn next_addition(batch: &[u32], from: usize, above: u64) -> Addition
+    ensures { λ r. ⌜ r ≡ nextAddition (now (batch .entry)) from above ⌝ }
+{
+    let mut n = from;
+    while n < batch.len() / RECORD_WORDS {
+        let i = n * RECORD_WORDS;
+        let kind = batch[i];
+        let pair = Pair {
+            term: batch[i + 1],
+            position: batch[i + 2],
+        };
+        let rank = pair.rank();
+        if (kind == ADDS) & (above < rank) {
+            return Addition { at: n, rank };
+        }
+        n += 1;
+    }
+    Addition { at: n, rank: 0 }
+}
+
+// How many records stand before those of a term, where the batch is in order.
+fn term_start(batch: &[u32], term: u64) -> usize
+    ensures { λ r. ⌜ TermStart (now (batch .entry)) term r ⌝ }
+{
+    let mut low: usize = 0;
+    let mut high: usize = batch.len() / RECORD_WORDS;
+    while low < high {
+        let middle = low + (high - low) / 2;
+        let here = batch[middle * RECORD_WORDS + 1] as u64;
+        if here < term {
+            low = middle + 1;
+        } else {
+            high = middle;
+        }
+    }
+    low
+}
+
+// Whether the records from a number on remove the pair and do not add it, where they are in order.
+fn withdrawn_from(batch: &[u32], start: usize, rank: u64) -> bool
+    ensures { λ r. ⌜ (falls 0 (drop start (updates (now (batch .entry)))) ≡ false → r ≡ withdrawn (drop start (updates (now (batch .entry)))) rank) ⌝ }
+{
+    let mut removed = false;
+    let mut added = false;
+    let mut n = start;
+    while n < batch.len() / RECORD_WORDS {
+        let i = n * RECORD_WORDS;
+        let kind = batch[i];
+        let term = batch[i + 1];
+        let first = Pair {
+            term,
+            position: batch[i + 2],
+        };
+        let last = Pair {
+            term,
+            position: batch[i + 3],
+        };
+        let low = first.rank();
+        let high = last.rank();
+        if rank < low {
+            return removed & !added;
+        }
+        removed = removed | ((kind == REMOVES) & (rank <= high));
+        added = added | ((kind == ADDS) & (rank == low));
+        n += 1;
+    }
+    removed & !added
+}
+
+// Whether a batch in order takes the pair away: it removes it and does not add it. Reads the records of the pair's own term only.
+pub fn withdrawn(batch: &[u32], rank: u64) -> bool
+    ensures { λ r. ⌜ (batchNumber (now (batch .entry)) ≡ 0 → r ≡ withdrawn (updates (now (batch .entry))) rank) ⌝ }
+{
+    let start = term_start(batch, rank / TERM_STRETCH);
+    withdrawn_from(batch, start, rank)
 }

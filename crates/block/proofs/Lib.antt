@@ -1,4 +1,6 @@
 pub mod Due
+pub mod Entries
+pub mod Filling
 pub mod Packing
 pub mod Reading
 pub mod Scanning

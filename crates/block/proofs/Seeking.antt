@@ -25,7 +25,8 @@ use Rattle.block.specs.Scan.{readsOn}
 use Rattle.block.specs.Wanted.{isWanted, wordsBefore, UpTo, EntryPart, BlockPart}
 use Rattle.block.proofs.Walk.{formed-between, pairs-stops, reads-on}
 use Rattle.block.proofs.Reading.{formedFrom-rising}
-use Rattle.block.proofs.Scanning.{fits, positionsAt, formed-at, entry-room, entry-fits}
+use Rattle.block.proofs.Scanning.{positionsAt}
+use Rattle.block.proofs.Entries.{fits, formed-at, entry-room, entry-fits}
 
 -- the test of a position of the wanted term
 abbrev pub inRange : ℕ → ℕ → ℕ → Bool

@@ -3,10 +3,10 @@ use Prim.Native.Nat.{ℕ, zero, suc, _+_, _-_, _≤_, _<_, zero-le}
 use native.Mathlib.Nat.{add-zero}
 use native.Mathlib.Numerals.{add-one}
 use native.Mathlib.Omega.{arith}
-use mathlib.Core.Path.{_≡_, refl, sym, ap, _∙_}
-use mathlib.Core.Bool.{Bool, true, false, cond, _&&_, _||_, not, and-assoc, and-true, and-false, and-not-self, false≢true}
+use mathlib.Core.Path.{_≡_, refl, sym, _∙_}
+use mathlib.Core.Bool.{Bool, true, false, _&&_, _||_, not, and-assoc, and-true, and-false, and-not-self, false≢true}
 use mathlib.Core.List.{List, [], _∷_}
-use borrow.Author.Tests.{le-leb, lt-leb, not-false, not-true, leb-false, eqb-false}
+use borrow.Author.Tests.{le-leb, lt-leb, not-false, leb-false}
 use lib.ListN.{length, take, drop, getD, drop-of-length-le, length-drop}
 use lib.Seq.{drop-cons, getD-drop}
 use lib.Dec.{ltb, leb, eqb, leb·zero, leb·suc-zero, leb·suc-suc}
@@ -82,14 +82,7 @@ stops-zero a b q ws e =
     let g : not (leb (length (a ∷ b ∷ q ∷ ws)) 2 || eqb a 0) ≡ false = e in
     not-false (eqb a 0) (rw f at g)
 
--- where no entry is to be read, the rest must be 0 and holds no pair
-pub formed-stops : (ws : List ℕ) (t p : ℕ) → readsOn ws ≡ false → formedFrom ws t 0 p ≡ zeros ws
-unfolding formedFrom zeros readsOn
-formed-stops [] t p e = refl
-formed-stops (a ∷ []) t p e = refl
-formed-stops (a ∷ b ∷ []) t p e = refl
-formed-stops (a ∷ b ∷ q ∷ ws) t p e = simp (stops-zero a b q ws e)
-
+-- where no entry is to be read, the rest holds no pair
 pub pairs-stops : (ws : List ℕ) (t : ℕ) → readsOn ws ≡ false → pairsFrom ws t 0 ≡ []
 unfolding pairsFrom readsOn
 pairs-stops [] t e = refl

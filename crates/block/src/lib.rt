@@ -4,13 +4,10 @@ ghost use Prim.Native.Nat.{_≤_};
 ghost use lib.ListN.{length, drop};
 ghost use Rattle.pair.specs.Rising.{risingFrom};
 ghost use Rattle.block.specs.Block.{zeros};
-ghost use Rattle.block.specs.Scan.{readsOn, scanned};
+ghost use Rattle.block.specs.Scan.{entryStands, scanned};
 use pair::Pair;
 
 pub mod wanted; // the wanted positions of a term in a block
-
-// The fewest words of an entry: a term, a count and one position.
-const ENTRY_LEAST: usize = 3;
 
 // What a scan tells of a block: whether it is a live block, and the ranks of its first and its last pair, 0 where it is not.
 pub struct BlockScan {
@@ -85,39 +82,38 @@ fn is_zero(words: &[u32]) -> bool
     ok
 }
 
-// Whether another entry is to be read at i: three words remain, and the next is not 0.
-fn reads_on(words: &[u32], i: usize) -> bool
+// Whether an entry that goes on from the term stands at i: three words remain, its term is greater, and its positions are there.
+fn entry_stands(words: &[u32], i: usize, term: u32) -> bool
     requires { ⌜ i ≤ length (now words) ⌝ }
-    ensures { λ r. ⌜ r ≡ readsOn (drop i (now (words .entry))) ⌝ }
+    ensures { λ r. ⌜ r ≡ entryStands term (drop i (now (words .entry))) ⌝ }
 {
     if words.len() <= i + 2 {
         return false;
     }
-    words[i] != 0
+    if words[i] <= term {
+        return false;
+    }
+    let count = words[i + 1] as usize;
+    let room = words.len() - (i + 2);
+    (0 < count) & (count <= room)
 }
 
-// Reads each word of a block once.
+// Goes over the words of a block once. An entry that does not stand ends the walk as the zeros do, and what follows is then not all 0.
 pub fn scan(words: &[u32]) -> BlockScan
     ensures { λ r. ⌜ r ≡ scanned (now (words .entry)) ⌝ }
 {
-    if !reads_on(words, 0) {
+    if !entry_stands(words, 0, 0) {
         return UNFORMED;
     }
     let mut ok = true;
     let mut i: usize = 0;
     let mut term: u32 = 0;
     let mut position: u32 = 0;
-    while reads_on(words, i) {
-        let next = words[i];
-        let count = words[i + 1] as usize;
+    while entry_stands(words, i, term) {
         let start = i + 2;
-        let fits = (0 < count) & (count <= words.len() - start);
-        if !fits {
-            return UNFORMED;
-        }
-        let end = start + count;
-        ok = ok & (term < next) & rises(&words[start..end]);
-        term = next;
+        let end = start + words[i + 1] as usize;
+        ok = ok & rises(&words[start..end]);
+        term = words[i];
         position = words[end - 1];
         i = end;
     }

@@ -1,7 +1,9 @@
 // The wanted positions of a term, those above one position and at most another, as a part of the words that hold them.
 ghost use mathlib.Core.Path.{_≡_};
+ghost use Prim.Native.Nat.{_≤_};
+ghost use lib.ListN.{length, drop};
+ghost use Rattle.block.specs.Scan.{readsOn};
 ghost use Rattle.block.specs.Wanted.{UpTo, EntryPart, BlockPart};
-use crate::reads_on;
 
 // A part of some words: where it starts and how many words it has.
 pub struct Part {
@@ -42,6 +44,17 @@ fn entry_part(positions: &[u32], after: u32, to: u32) -> Part
         start,
         len: end - start,
     }
+}
+
+// Whether another entry is to be read at i: three words remain, and the next is not 0.
+fn reads_on(words: &[u32], i: usize) -> bool
+    requires { ⌜ i ≤ length (now words) ⌝ }
+    ensures { λ r. ⌜ r ≡ readsOn (drop i (now (words .entry))) ⌝ }
+{
+    if words.len() <= i + 2 {
+        return false;
+    }
+    words[i] != 0
 }
 
 // The wanted positions of a block: it goes from entry to entry, to the first whose term is not below the wanted one.

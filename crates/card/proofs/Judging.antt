@@ -160,7 +160,7 @@ walking-end {c} {start} {len} {after} {k} {j} a h =
     sym (a .rest ∙ rw e)
 
 -- a rising list has an element above k exactly where its last is above k
-any-last : (xs : List ℕ) (j k : ℕ) → risingFrom j xs ≡ true → j ≤ k → any (ltb k) xs ≡ ltb k (last j xs)
+pub any-last : (xs : List ℕ) (j k : ℕ) → risingFrom j xs ≡ true → j ≤ k → any (ltb k) xs ≡ ltb k (last j xs)
 unfolding any last
 any-last [] j k r h = sym (le-ltb k j h)
 any-last (x ∷ xs) j k r h = go (ltb k x) refl (any-last xs x k (rising-tail x xs j r))

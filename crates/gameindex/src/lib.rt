@@ -2,6 +2,10 @@
 ghost use mathlib.Core.Path.{_≡_};
 ghost use Rattle.card.specs.Layout.{formatNumber, formatted};
 ghost use Rattle.card.specs.Sound.{judged};
+ghost use Rattle.update.specs.Step.{step};
+ghost use Rattle.gameindex.specs.Flat.{flag, Stepped, LookedUp};
+ghost use Rattle.lookup.specs.Found.{lookup};
+use lookup::LookupAnswer;
 
 // Formats a card; the reply is the number, 0 where it is done.
 #[no_mangle]
@@ -17,4 +21,63 @@ pub extern "C" fn gi_judge(card: &[u32]) -> u32
     ensures { λ r. ⌜ r ≡ judged (now (card .entry)) ⌝ }
 {
     card::judge(card)
+}
+
+// 1 for true, 0 for false.
+fn flag(value: bool) -> u32
+    ensures { λ r. ⌜ r ≡ flag value ⌝ }
+{
+    if value {
+        return 1;
+    }
+    0
+}
+
+// One step of a pass; the reply is the number, 0 where a write was made. The write, the old places freed and whether the pass finished are filled in.
+#[no_mangle]
+pub extern "C" fn gi_step(
+    card: &mut [u32],
+    batch: &[u32],
+    write: &mut u32,
+    freed: &mut u32,
+    finished: &mut u32,
+) -> u32
+    ensures { λ r. ⌜ Stepped r (now (write .exit)) (now (freed .exit)) (now (finished .exit)) (now (card .exit)) (step (now (card .entry)) (now (batch .entry))) ⌝ }
+{
+    let answer = update::step(card, batch);
+    *write = update::write_of(answer);
+    *freed = update::freed_of(answer);
+    *finished = flag(update::finished_of(answer));
+    update::number_of(answer)
+}
+
+// Looks a term up; the reply is the number, 0 where it is done. The count of positions and of blocks read go behind the last two references.
+#[no_mangle]
+pub extern "C" fn gi_lookup(
+    card: &[u32],
+    term: u32,
+    from: u32,
+    to: u32,
+    answer: &mut [u32],
+    found: &mut u32,
+    blocks: &mut u32,
+) -> u32
+    ensures { λ r. ⌜ LookedUp r (now (found .exit)) (now (blocks .exit)) (now (answer .exit)) (lookup (now (card .entry)) term from to (now (answer .entry))) ⌝ }
+{
+    let reply = lookup::lookup(card, term, from, to, answer);
+    match reply {
+        LookupAnswer::Refused(number) => {
+            *found = 0;
+            *blocks = 0;
+            number
+        }
+        LookupAnswer::Found {
+            count,
+            blocks: read,
+        } => {
+            *found = count;
+            *blocks = read;
+            0
+        }
+    }
 }

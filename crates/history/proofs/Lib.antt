@@ -12,3 +12,4 @@ pub mod Removals
 pub mod Sharp
 pub mod SmallCards
 pub mod StepByStep
+pub mod Yields

@@ -2,9 +2,9 @@
 use Prim.Native.Nat.{ℕ, zero, suc, _+_, _-_, _≤_, _<_}
 use mathlib.Core.Path.{_≡_}
 use mathlib.Core.Bool.{Bool, true, false, cond, _&&_, _||_, not}
-use mathlib.Core.List.{List, [], _∷_, _++_}
+use mathlib.Core.List.{List, [], _∷_, map}
 use lib.Dec.{eqb, leb, ltb}
-use lib.ListN.{drop}
+use lib.ListN.{take, drop, getD}
 use Rattle.pair.specs.Rank.{rank, Words}
 use Rattle.pair.specs.Rising.{above, atMost}
 use Rattle.block.specs.Block.{fitting}
@@ -13,7 +13,7 @@ use Rattle.card.specs.Sound.{judged}
 use Rattle.batch.specs.Batch.{Update, updates, anyUpdate, applied, batchNumber}
 use Rattle.update.specs.Step.{Step, remains, stepNumber, step}
 use Rattle.update.specs.Pass.{stepLimit, finishesWithin, refusedWithin}
-use Rattle.lookup.specs.Found.{questionNumber, blocksRead, holders}
+use Rattle.lookup.specs.Found.{questionNumber, blocksRead, holders, Lookup, lookup, posting, ended, yielded}
 use Rattle.history.specs.History.{Event, stepped, cut, looked, restarted, formats, after, AllOfWords}
 
 -- a pass left uncut and unrefused, with its batch kept, finishes within the step limit
@@ -104,3 +104,9 @@ unfoldable pub RemainsNext : Type 0
 RemainsNext =
     (c b : List ℕ) → Words c → Words b → step c b .write ≡ 3 → step c b .finished ≡ false →
     remains (step c b .card) b ≡ drop (fitting (blockSize c) 0 (remains c b)) (remains c b)
+
+-- what the posting reader yields, one posting after another, are the positions that the lookup gives, then the end for ever
+unfoldable pub ReaderYieldsLookup : Type 0
+ReaderYieldsLookup =
+    (c : List ℕ) (t a z : ℕ) (answer : List ℕ) (n : ℕ) → lookup c t a z answer .number ≡ 0 →
+    yielded c t a z n ≡ getD (map posting (take (lookup c t a z answer .count) (lookup c t a z answer .answer))) n ended

@@ -1,15 +1,13 @@
 -- `block::scan` meets its contract. The invariant of its loop, Reading: what the block is as a whole is what the words from i on are, after a pair of the term and the position in hand.
-use Prim.Native.Nat.{ℕ, _+_, _-_, _<_, _≤_}
+use Prim.Native.Nat.{ℕ, _+_, _-_}
 use native.Mathlib.Omega.{arith}
 use mathlib.Core.Path.{_≡_, sym, _∙_}
 use mathlib.Core.Bool.{true, false, _&&_}
 use mathlib.Core.List.{List}
 use borrow.Author.Tests.{not-true, not-false}
-use lib.ListN.{drop, getD}
-use Rattle.block.specs.Scan.{readsOn}
-use Rattle.block.proofs.Walk.{unformed-start}
-use Rattle.block.proofs.Scanning.{Reading, reading-start, reading-turn, reading-misfit, reading-tail, reading-end, unformed, entry-room, entry-fits}
-use lib.ListN.{length}
+use lib.ListN.{length, drop}
+use Rattle.block.specs.Scan.{entryStands}
+use Rattle.block.proofs.Scanning.{Reading, Standing, standing, reading-start, reading-turn, reading-tail, reading-end, unformed, unformed-first}
 use borrow.Author.Needs.{needs}
 use Rattle.block.proofs.scan.Statement.{statement}
 use Rattle.block.proofs.scan.Tie as tie
@@ -27,72 +25,57 @@ W c = c .before .before .before .before .before .before .args .words .now
 abbrev I : tie.Then2 Inv-loop μ-loop → ℕ
 I c = c .before .before .loop .i
 
-inv : (c : tie.Then2 Inv-loop μ-loop) → Reading (W c) (c .before .before .loop .ok) (I c) (c .before .before .loop .term) (c .before .before .loop .position)
+abbrev T : tie.Then2 Inv-loop μ-loop → ℕ
+T c = c .before .before .loop .term
+
+inv : (c : tie.Then2 Inv-loop μ-loop) → Reading (W c) (c .before .before .loop .ok) (I c) (T c) (c .before .before .loop .position)
 inv c = c .before .before .loop .inv
 
-on : (c : tie.Then2 Inv-loop μ-loop) → readsOn (drop (I c) (W c)) ≡ true
-on c = sym (c .before .reads-on2 .ensures) ∙ c .if2 .taken
+on : (c : tie.Then2 Inv-loop μ-loop) → entryStands (T c) (drop (I c) (W c)) ≡ true
+on c = sym (c .before .entry-stands2 .ensures) ∙ c .if2 .taken
 
-room : (c : tie.Then2 Inv-loop μ-loop) → I c + 2 < length (W c)
-room c = entry-room (W c) (I c) (on c)
-
--- the entry has a position, and its positions are there
-fit : (c : tie.Else3 Inv-loop μ-loop) → (0 < getD (W (c .before .before .before)) (I (c .before .before .before) + 1) 0) × (getD (W (c .before .before .before)) (I (c .before .before .before) + 1) 0 ≤ length (W (c .before .before .before)) - (I (c .before .before .before) + 2))
-fit c =
-    let t = c .before .before .before in
-    entry-fits (W t) (I t) (not-false _ (c .if3 .left))
+stood : (c : tie.Then2 Inv-loop μ-loop) → Standing (W c) (I c) (T c)
+stood c = standing (W c) (I c) (T c) (on c)
 
 -- after the loop: no entry stands at i; and one stood at 0
-off : (c : tie.Else2 Inv-loop μ-loop) → readsOn (drop (c .before .before .loop .i) (c .before .before .before .before .before .before .args .words .now)) ≡ false
-off c = sym (c .before .reads-on2 .ensures) ∙ c .if2 .left
+off : (c : tie.Else2 Inv-loop μ-loop) → entryStands (c .before .before .loop .term) (drop (c .before .before .loop .i) (c .before .before .before .before .before .before .args .words .now)) ≡ false
+off c = sym (c .before .entry-stands2 .ensures) ∙ c .if2 .left
 
-first-on : (c : tie.Else1 Inv-loop μ-loop) → readsOn (c .before .before .before .args .words .now) ≡ true
-first-on c = sym (c .before .reads-on .ensures) ∙ not-false _ (c .if1 .left)
+first-on : (c : tie.Else1 Inv-loop μ-loop) → entryStands 0 (c .before .before .before .args .words .now) ≡ true
+first-on c = sym (c .before .entry-stands .ensures) ∙ not-false _ (c .if1 .left)
 
-first-room : (c : tie.Else1 Inv-loop μ-loop) → 2 < length (c .before .before .before .args .words .now)
-first-room c = entry-room (c .before .before .before .args .words .now) 0 (first-on c)
+first-stood : (c : tie.Else1 Inv-loop μ-loop) → Standing (c .before .before .before .args .words .now) 0 0
+first-stood c = standing (c .before .before .before .args .words .now) 0 0 (first-on c)
 
-reads-on-requires : tie.Need-reads-on-requires Inv-loop μ-loop
-reads-on-requires c κs = search needs
+entry-stands-requires : tie.Need-entry-stands-requires Inv-loop μ-loop
+entry-stands-requires c κs = search needs
 
 returns : tie.Need-returns Inv-loop μ-loop
-returns c = unformed _ (unformed-start _ (sym (c .before .reads-on .ensures) ∙ not-true _ (c .if1 .taken)))
+returns c = unformed _ (unformed-first _ (sym (c .before .entry-stands .ensures) ∙ not-true _ (c .if1 .taken)))
 
 loop-holds : tie.Need-loop-holds Inv-loop μ-loop
 loop-holds c = reading-start _
 
-reads-on-requires-2 : tie.Need-reads-on-requires-2 Inv-loop μ-loop
-reads-on-requires-2 c κs = search needs
-
-mul-next : tie.Need-mul-next Inv-loop μ-loop
-mul-next c = search needs
-
-shared-slice-read-next : tie.Need-shared-slice-read-next Inv-loop μ-loop
-shared-slice-read-next c = omega (arith, room (c .before))
-
-add-count : tie.Need-add-count Inv-loop μ-loop
-add-count c = search needs
-
-mul-count : tie.Need-mul-count Inv-loop μ-loop
-mul-count c = search needs
-
-shared-slice-read-count : tie.Need-shared-slice-read-count Inv-loop μ-loop
-shared-slice-read-count c = omega (arith, room (c .before .before))
-
-cast-count : tie.Need-cast-count Inv-loop μ-loop
-cast-count c = omega (arith, c .shared-slice-known3 .given (I (c .before .before) + 1))
+entry-stands-requires-2 : tie.Need-entry-stands-requires-2 Inv-loop μ-loop
+entry-stands-requires-2 c κs = search needs
 
 add-start : tie.Need-add-start Inv-loop μ-loop
-add-start c = search needs
-
-sub-fits : tie.Need-sub-fits Inv-loop μ-loop
-sub-fits c = omega (arith, room (c .before .before))
-
-returns-2 : tie.Need-returns-2 Inv-loop μ-loop
-returns-2 c = unformed _ (reading-misfit (inv (c .before .before .before)) (on (c .before .before .before)) (not-true _ (c .if3 .taken)))
+add-start c = omega (arith, stood c)
 
 add-end : tie.Need-add-end Inv-loop μ-loop
-add-end c = omega (arith, fit c, room (c .before .before .before))
+add-end c = omega (arith, stood c)
+
+mul-end : tie.Need-mul-end Inv-loop μ-loop
+mul-end c = omega (arith, stood c)
+
+shared-slice-read-end : tie.Need-shared-slice-read-end Inv-loop μ-loop
+shared-slice-read-end c = omega (arith, stood (c .before))
+
+cast-end : tie.Need-cast-end Inv-loop μ-loop
+cast-end c = omega (arith, c .shared-slice-known2 .given (I (c .before) + 1))
+
+add-end-2 : tie.Need-add-end-2 Inv-loop μ-loop
+add-end-2 c = omega (arith, stood (c .before))
 
 mul-rises : tie.Need-mul-rises Inv-loop μ-loop
 mul-rises c = search needs
@@ -104,28 +87,34 @@ part-rises-start : tie.Need-part-rises-start Inv-loop μ-loop
 part-rises-start c = search needs
 
 part-rises-end : tie.Need-part-rises-end Inv-loop μ-loop
-part-rises-end c = omega (arith, fit c, room (c .before .before .before))
+part-rises-end c = omega (arith, stood (c .before))
 
 rises-requires : tie.Need-rises-requires Inv-loop μ-loop
 rises-requires c κs = search needs
+
+mul-term : tie.Need-mul-term Inv-loop μ-loop
+mul-term c = omega (arith, stood (c .before .before .before))
+
+shared-slice-read-term : tie.Need-shared-slice-read-term Inv-loop μ-loop
+shared-slice-read-term c = omega (arith, stood (c .before .before .before .before))
 
 sub-position : tie.Need-sub-position Inv-loop μ-loop
 sub-position c = search needs
 
 mul-position : tie.Need-mul-position Inv-loop μ-loop
-mul-position c = let e = c .before .before in omega (arith, fit e, room (e .before .before .before))
+mul-position c = omega (arith, stood (c .before .before .before .before))
 
 shared-slice-read-position : tie.Need-shared-slice-read-position Inv-loop μ-loop
-shared-slice-read-position c = let e = c .before .before .before in omega (arith, fit e, room (e .before .before .before))
+shared-slice-read-position c = omega (arith, stood (c .before .before .before .before .before))
 
 loop-less : tie.Need-loop-less Inv-loop μ-loop
-loop-less c = let e = c .before .before .before in omega (arith, fit e, room (e .before .before .before))
+loop-less c = omega (arith, stood (c .before .before .before .before .before))
 
 loop-again : tie.Need-loop-again Inv-loop μ-loop
 loop-again c =
-    let e = c .before .before .before in
-    let t = e .before .before .before in
-    reading-turn (inv t) (on t) (not-false _ (e .if3 .left)) (c .before .rises .result) (c .before .rises .ensures)
+    let r = c .before .before in
+    let t = r .before .before .before in
+    reading-turn (inv t) (on t) (r .rises .result) (r .rises .ensures)
 
 mul-is-zero : tie.Need-mul-is-zero Inv-loop μ-loop
 mul-is-zero c = search needs
@@ -142,17 +131,17 @@ part-is-zero-end c = search needs
 is-zero-requires : tie.Need-is-zero-requires Inv-loop μ-loop
 is-zero-requires c κs = search needs
 
-returns-3 : tie.Need-returns-3 Inv-loop μ-loop
-returns-3 c =
+returns-2 : tie.Need-returns-2 Inv-loop μ-loop
+returns-2 c =
     let z = c .before .before .before in
-    let t : (z .before .before .loop .ok && c .before .is-zero .result) ≡ false = not-true _ (c .if4 .taken) in
+    let t : (z .before .before .loop .ok && c .before .is-zero .result) ≡ false = not-true _ (c .if3 .taken) in
     unformed _ (reading-tail (z .before .before .loop .inv) (off z) (rw (c .before .is-zero .ensures) at t))
 
-shared-slice-read-t35 : tie.Need-shared-slice-read-t35 Inv-loop μ-loop
-shared-slice-read-t35 c = omega (arith, first-room (c .before .before .before .before .before .before .before))
+shared-slice-read-t31 : tie.Need-shared-slice-read-t31 Inv-loop μ-loop
+shared-slice-read-t31 c = omega (arith, first-stood (c .before .before .before .before .before .before .before))
 
-shared-slice-read-t37 : tie.Need-shared-slice-read-t37 Inv-loop μ-loop
-shared-slice-read-t37 c = omega (arith, first-room (c .before .before .before .before .before .before .before .before))
+shared-slice-read-t33 : tie.Need-shared-slice-read-t33 Inv-loop μ-loop
+shared-slice-read-t33 c = omega (arith, first-stood (c .before .before .before .before .before .before .before .before))
 
 rank-requires : tie.Need-rank-requires Inv-loop μ-loop
 rank-requires c κs = search needs
@@ -160,11 +149,11 @@ rank-requires c κs = search needs
 rank-requires-2 : tie.Need-rank-requires-2 Inv-loop μ-loop
 rank-requires-2 c κs = search needs
 
-returns-4 : tie.Need-returns-4 Inv-loop μ-loop
-returns-4 c =
+returns-3 : tie.Need-returns-3 Inv-loop μ-loop
+returns-3 c =
     let e = c .before .before .before .before in
     let z = e .before .before .before in
-    let t : (z .before .before .loop .ok && e .before .is-zero .result) ≡ true = not-false _ (e .if4 .left) in
+    let t : (z .before .before .loop .ok && e .before .is-zero .result) ≡ true = not-false _ (e .if3 .left) in
     rw (c .before .rank .ensures, c .rank2 .ensures)
     (reading-end (z .before .before .loop .inv) (first-on (z .before .before .before)) (off z) (rw (e .before .is-zero .ensures) at t))
 
@@ -174,25 +163,23 @@ scan-spec =
     (tie.spec
     Inv-loop
     μ-loop
-    reads-on-requires
+    entry-stands-requires
     returns
     loop-holds
-    reads-on-requires-2
-    mul-next
-    shared-slice-read-next
-    add-count
-    mul-count
-    shared-slice-read-count
-    cast-count
+    entry-stands-requires-2
     add-start
-    sub-fits
-    returns-2
     add-end
+    mul-end
+    shared-slice-read-end
+    cast-end
+    add-end-2
     mul-rises
     sub-rises
     part-rises-start
     part-rises-end
     rises-requires
+    mul-term
+    shared-slice-read-term
     sub-position
     mul-position
     shared-slice-read-position
@@ -203,9 +190,9 @@ scan-spec =
     part-is-zero-start
     part-is-zero-end
     is-zero-requires
-    returns-3
-    shared-slice-read-t35
-    shared-slice-read-t37
+    returns-2
+    shared-slice-read-t31
+    shared-slice-read-t33
     rank-requires
     rank-requires-2
-    returns-4)
+    returns-3)

@@ -7,7 +7,7 @@ use mathlib.Core.List.{List}
 use lib.ListN.{length, drop}
 use Rattle.pair.specs.Rank.{Words}
 use Rattle.block.specs.Scan.{readsOn}
-use Rattle.block.proofs.Scanning.{entry-room}
+use Rattle.block.proofs.Entries.{entry-room}
 use Rattle.block.proofs.Seeking.{Seek, seek-start, seek-stop, seek-misfit, seek-past, seek-turn, seek-found}
 use borrow.Author.Needs.{needs}
 use Rattle.block.proofs.wanted.block_part.Statement.{statement}

@@ -1,7 +1,7 @@
 use Rattle.block.proofs.Walk.{reads-on-short, reads-on-at}
 use borrow.Author.Needs.{needs}
-use Rattle.block.proofs.reads_on.Statement.{statement}
-use Rattle.block.proofs.reads_on.Tie as tie
+use Rattle.block.proofs.wanted.reads_on.Statement.{statement}
+use Rattle.block.proofs.wanted.reads_on.Tie as tie
 
 add-if1 : tie.Need-add-if1
 add-if1 c = search needs

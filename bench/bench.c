@@ -1,0 +1,143 @@
+/* What the benchmarks share: the largest card, filled in several ways, a batch
+ * for it, and the clock. */
+#define _POSIX_C_SOURCE 200809L
+
+#include "bench.h"
+
+#include <stdbool.h>
+#include <stdio.h>
+#include <stdlib.h>
+#include <string.h>
+#include <time.h>
+
+void give_up(const char *what) {
+    fprintf(stderr, "bench: %s\n", what);
+    exit(1);
+}
+
+uint32_t *words_for(size_t count) {
+    uint32_t *words = calloc(count, sizeof *words);
+    if (words == NULL)
+        give_up("no memory");
+    return words;
+}
+
+double seconds(void) {
+    struct timespec now;
+    clock_gettime(CLOCK_MONOTONIC, &now);
+    return (double)now.tv_sec + 1e-9 * (double)now.tv_nsec;
+}
+
+double timed_judge(const uint32_t *card) {
+    double began = seconds();
+    if (gi_judge(card, CARD_WORDS) != GI_DONE)
+        give_up("a sound card was refused");
+    return seconds() - began;
+}
+
+uint32_t *block_at(uint32_t *card, uint32_t place) {
+    return card + GI_CONFIG_WORDS + PLACES * GI_MAP_ENTRY_WORDS + (size_t)place * BLOCK_WORDS;
+}
+
+uint32_t *map_entry_at(uint32_t *card, uint32_t place) {
+    return card + GI_CONFIG_WORDS + place * GI_MAP_ENTRY_WORDS;
+}
+
+void start_card(uint32_t *card, uint32_t live) {
+    memset(card, 0, CARD_WORDS * sizeof *card);
+    if (gi_format(card, CARD_WORDS, BLOCK_WORDS, PLACES) != GI_DONE)
+        give_up("the card was not formatted");
+    card[GI_CONFIG_OLD_START] = OLD_START;
+    card[GI_CONFIG_OLD_LENGTH] = live;
+}
+
+/* The positions of the first term, so that a full card has some 28,000 terms. */
+static uint32_t most_frequent(uint32_t live) {
+    return 90 * live;
+}
+
+uint32_t fill_zipf(uint32_t *card, uint32_t live) {
+    start_card(card, live);
+    uint32_t most = most_frequent(live);
+    uint32_t term = 1;
+    uint32_t done = 0; /* positions of the term in earlier blocks */
+    for (uint32_t k = 0; k < live; k++) {
+        uint32_t place = (OLD_START + k) % PLACES;
+        uint32_t *block = block_at(card, place);
+        uint32_t at = 0;
+        while (at + 3 <= BLOCK_WORDS) {
+            uint32_t wanted = (most / term > 0 ? most / term : 1) - done;
+            uint32_t room = BLOCK_WORDS - at - 2;
+            uint32_t count = wanted < room ? wanted : room;
+            block[at] = term;
+            block[at + 1] = count;
+            for (uint32_t i = 0; i < count; i++)
+                block[at + 2 + i] = 3 * (done + i) + term % 100 + 1;
+            at += 2 + count;
+            done += count;
+            if (count == wanted) {
+                term++;
+                done = 0;
+            }
+        }
+        memcpy(map_entry_at(card, place), (const uint32_t[]){block[0], block[2]}, sizeof(uint32_t[2]));
+    }
+    if (gi_judge(card, CARD_WORDS) != GI_DONE)
+        give_up("the filled card is not sound");
+    return term;
+}
+
+/* ---- the batch */
+
+/* A number by chance, the same in every run. */
+static uint32_t chance(uint32_t *state) {
+    *state ^= *state << 13;
+    *state ^= *state >> 17;
+    *state ^= *state << 5;
+    return *state;
+}
+
+/* Finds the pair that a word of a block belongs to; false where it is none's. */
+static bool pair_of_word(const uint32_t *block, uint32_t word, uint32_t *term, uint32_t *position) {
+    uint32_t at = 0;
+    while (at + 3 <= BLOCK_WORDS && block[at] != 0) {
+        uint32_t end = at + 2 + block[at + 1];
+        if (word >= at + 2 && word < end) {
+            *term = block[at];
+            *position = block[word];
+            return true;
+        }
+        at = end;
+    }
+    return false;
+}
+
+static int by_term_then_from(const void *one, const void *other) {
+    const uint32_t *a = one;
+    const uint32_t *b = other;
+    if (a[1] != b[1])
+        return a[1] < b[1] ? -1 : 1;
+    return a[2] < b[2] ? -1 : a[2] > b[2];
+}
+
+void zipf_batch(uint32_t *card, uint32_t live, uint32_t *batch) {
+    enum { REMOVED = 3, REMOVED_FIRST = 100, APART = 3 };
+    uint32_t state = 2463534242;
+    uint32_t *record = batch;
+    memcpy(record, (const uint32_t[]){GI_RECORD_REMOVE, 1, 1, REMOVED_FIRST * APART}, sizeof(uint32_t[4]));
+    record += GI_RECORD_WORDS;
+    while (record < batch + BATCH_WORDS) {
+        uint32_t place = (OLD_START + chance(&state) % live) % PLACES;
+        uint32_t term;
+        uint32_t position;
+        if (!pair_of_word(block_at(card, place), chance(&state) % BLOCK_WORDS, &term, &position))
+            continue;
+        bool adds = chance(&state) % 2 == 0;
+        record[0] = adds ? GI_RECORD_ADD : GI_RECORD_REMOVE;
+        record[1] = term;
+        record[2] = adds ? position + 1 : position;
+        record[3] = adds ? position + 1 : position + (REMOVED - 1) * APART;
+        record += GI_RECORD_WORDS;
+    }
+    qsort(batch, GI_BATCH_RECORDS_MAX, GI_RECORD_WORDS * sizeof *batch, by_term_then_from);
+}

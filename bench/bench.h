@@ -1,0 +1,50 @@
+/* What the benchmarks share: the largest card, filled in several ways, a batch
+ * for it, and the clock. */
+#ifndef BENCH_H
+#define BENCH_H
+
+#include <stddef.h>
+#include <stdint.h>
+
+#include "gameindex.h"
+
+enum {
+    BLOCK_WORDS = GI_BLOCK_WORDS_MAX,
+    PLACES = GI_PLACES_MAX,
+    LIVE_PLACES = PLACES - 1, /* of a full card */
+    CARD_WORDS = GI_CARD_WORDS_MAX,
+    OLD_START = 700, /* so that the segment goes around the circle */
+    BATCH_WORDS = GI_BATCH_RECORDS_MAX * GI_RECORD_WORDS
+};
+
+/* Says what went wrong and ends the benchmark. */
+void give_up(const char *what);
+
+/* Memory for count words; never NULL. */
+uint32_t *words_for(size_t count);
+
+double seconds(void);
+
+/* Seconds of one call of the judge on a sound card. */
+double timed_judge(const uint32_t *card);
+
+/* Where the block and the map entry of a place stand. */
+uint32_t *block_at(uint32_t *card, uint32_t place);
+uint32_t *map_entry_at(uint32_t *card, uint32_t place);
+
+/* Makes a card with a number of live places, all old, and zeros for the rest;
+ * the places still have to be filled. */
+void start_card(uint32_t *card, uint32_t live);
+
+/* Fills the live places with terms whose frequency is that of a Zipf law: term t
+ * has 1/t of the first term's positions, and at least one. Positions of a term
+ * are three apart. Gives the last term. */
+uint32_t fill_zipf(uint32_t *card, uint32_t live);
+
+/* Makes a batch of 4,096 records for such a card. Each is about a live pair
+ * chosen by chance, so the terms follow the same law: one half adds a position
+ * beside it, the other removes it and its next ones. More is removed than added
+ * up to every pair, so that the full card has room for the pass. */
+void zipf_batch(uint32_t *card, uint32_t live, uint32_t *batch);
+
+#endif

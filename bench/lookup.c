@@ -1,0 +1,139 @@
+/* Times lookups on the largest card, full: of frequent and rare terms against the
+ * judge alone on the same card, since every lookup judges first; and what a
+ * lookup takes beyond the judge, for each position of its answer, against a plain
+ * C loop that moves the same words. The calls take turns, and the best call of
+ * each counts. */
+#include <inttypes.h>
+#include <stdio.h>
+#include <stdlib.h>
+#include <string.h>
+
+#include "bench.h"
+
+enum { CALLS = 100 };
+
+/* The best times of a question's three calls, and what the lookup answered. */
+struct times {
+    double lookup;
+    double judge;
+    double plain;
+    uint32_t found;
+    uint32_t blocks;
+};
+
+static double timed_lookup(const uint32_t *card, uint32_t term, uint32_t *answer, struct times *times) {
+    double began = seconds();
+    uint32_t number =
+        gi_lookup(card, CARD_WORDS, term, GI_LOWEST, GI_HIGHEST, answer, CARD_WORDS, &times->found, &times->blocks);
+    double took = seconds() - began;
+    if (number != GI_DONE)
+        give_up("a lookup was refused");
+    return took;
+}
+
+/* The live places that hold a term: how many, and which is the first. */
+struct holders {
+    uint32_t first;
+    uint32_t count;
+};
+
+/* Where a term's entry stands in a block; BLOCK_WORDS where there is none. */
+static uint32_t entry_of(const uint32_t *block, uint32_t term) {
+    for (uint32_t at = 0; at + 3 <= BLOCK_WORDS && block[at] != 0; at += 2 + block[at + 1])
+        if (block[at] == term)
+            return at;
+    return BLOCK_WORDS;
+}
+
+static struct holders holders_of(uint32_t *card, uint32_t term) {
+    struct holders places = {0, 0};
+    for (uint32_t k = 0; k < LIVE_PLACES; k++) {
+        uint32_t place = (OLD_START + k) % PLACES;
+        if (entry_of(block_at(card, place), term) == BLOCK_WORDS)
+            continue;
+        if (places.count++ == 0)
+            places.first = place;
+    }
+    return places;
+}
+
+/* Moves a term's positions to the answer, told where they stand; nothing is
+ * judged and nothing searched but each block's entries. */
+static uint32_t move_positions(uint32_t *card, struct holders places, uint32_t term, uint32_t *answer) {
+    uint32_t found = 0;
+    for (uint32_t k = 0; k < places.count; k++) {
+        const uint32_t *block = block_at(card, (places.first + k) % PLACES);
+        const uint32_t *entry = block + entry_of(block, term);
+        uint32_t count = entry[1];
+        for (uint32_t i = 0; i < count; i++)
+            answer[found + i] = entry[2 + i];
+        found += count;
+    }
+    return found;
+}
+
+static struct times time_term(uint32_t *card, uint32_t term, uint32_t *answer, uint32_t *plain_answer) {
+    struct times best = {1e9, 1e9, 1e9, 0, 0};
+    struct holders places = holders_of(card, term);
+    for (int i = 0; i < CALLS; i++) {
+        double judge = timed_judge(card);
+        double lookup = timed_lookup(card, term, answer, &best);
+        double began = seconds();
+        uint32_t moved = move_positions(card, places, term, plain_answer);
+        double plain = seconds() - began;
+        if (moved != best.found || memcmp(answer, plain_answer, moved * sizeof *answer) != 0)
+            give_up("lookup and plain C differ");
+        best.judge = judge < best.judge ? judge : best.judge;
+        best.lookup = lookup < best.lookup ? lookup : best.lookup;
+        best.plain = plain < best.plain ? plain : best.plain;
+    }
+    return best;
+}
+
+/* Shows a question's times; a position's only where there are enough to time. */
+static void show(const char *what, struct times best) {
+    enum { ENOUGH = 10000 };
+    printf("%-22s %9" PRIu32 " %7" PRIu32 " %9.4f %9.4f %7.2f", what, best.found, best.blocks, best.lookup * 1e3,
+           best.judge * 1e3, best.lookup / best.judge);
+    if (best.found >= ENOUGH) {
+        double ns = 1e9 / best.found;
+        printf(" %10.3f %9.3f", (best.lookup - best.judge) * ns, best.plain * ns);
+    }
+    putchar('\n');
+}
+
+/* Fills the card with one term. */
+static void fill_one_term(uint32_t *card) {
+    enum { POSITIONS = BLOCK_WORDS - 2 };
+    start_card(card, LIVE_PLACES);
+    for (uint32_t k = 0; k < LIVE_PLACES; k++) {
+        uint32_t place = (OLD_START + k) % PLACES;
+        uint32_t *block = block_at(card, place);
+        block[0] = 1;
+        block[1] = POSITIONS;
+        for (uint32_t i = 0; i < POSITIONS; i++)
+            block[2 + i] = 3 * (k * POSITIONS + i) + 1;
+        memcpy(map_entry_at(card, place), (const uint32_t[]){block[0], block[2]}, sizeof(uint32_t[2]));
+    }
+}
+
+int main(void) {
+    uint32_t *card = words_for(CARD_WORDS);
+    uint32_t *answer = words_for(CARD_WORDS);
+    uint32_t *plain_answer = words_for(CARD_WORDS);
+    uint32_t last = fill_zipf(card, LIVE_PLACES);
+    printf("lookup, 1,023 places live, ms a call (best of %d); ns a position beyond the judge\n", CALLS);
+    printf("%-22s %9s %7s %9s %9s %7s %10s %9s\n", "term", "positions", "blocks", "lookup", "judge", "ratio", "ns/pos",
+           "plain C");
+    show("the most frequent", time_term(card, 1, answer, plain_answer));
+    show("the 10th", time_term(card, 10, answer, plain_answer));
+    show("the 1,000th", time_term(card, 1000, answer, plain_answer));
+    show("a rare one", time_term(card, last - 2, answer, plain_answer));
+    show("one that is not there", time_term(card, GI_HIGHEST, answer, plain_answer));
+    fill_one_term(card);
+    show("one term, whole card", time_term(card, 1, answer, plain_answer));
+    free(plain_answer);
+    free(answer);
+    free(card);
+    return 0;
+}

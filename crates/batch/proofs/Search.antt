@@ -1,0 +1,274 @@
+-- The searches over the records of a batch: the next addition, the records of a term, whether a pair is withdrawn.
+use Prim.Native.Nat.{ℕ, zero, suc, _+_, _*_, _-_, _/_, _≤_, _<_}
+use native.Mathlib.Nat.{add-zero, zero-add}
+use native.Mathlib.Numerals.{add-one}
+use native.Mathlib.Omega.{arith}
+use mathlib.Core.Path.{_≡_, refl, sym, ap, _∙_}
+use mathlib.Core.Bool.{Bool, true, false, cond, _&&_, _||_, not, or-assoc, or-false, and-false, and-true, false≢true}
+use mathlib.Core.List.{List, [], _∷_}
+use lib.ListN.{length, drop, getD, length-drop}
+use lib.Seq.{drop-drop, drop-nil}
+use lib.Dec.{ltb, leb, eqb}
+use borrow.Author.Tests.{ltb-true, ltb-false, le-leb, lt-leb, ne-eqb, le-ltb, lt-ltb}
+use Rattle.pair.specs.Rank.{rank, term, Words}
+use Rattle.pair.proofs.Tests.{and-left, and-right, or-left, or-right, or-both, and-both, not-holds}
+use Rattle.batch.specs.declared.Addition.{Addition}
+use Rattle.batch.specs.Batch.{Update, updates, anyUpdate, removes, adds, withdrawn, falls}
+use Rattle.batch.specs.Search.{OfWords, addsAbove, firstAdded, beforeAdded, nextAddition, TermStart}
+use Rattle.batch.proofs.Merge.{leastAdded, leastAdded-first, earlier}
+use Rattle.batch.proofs.InOrder.{EachUpdate, words-updates}
+use Rattle.batch.proofs.Records.{recordAt, updates-at}
+
+-- dropping words by fours is dropping records
+pub updates-drop : (n : ℕ) (b : List ℕ) → updates (drop (n * 4) b) ≡ drop n (updates b)
+unfolding updates
+updates-drop zero b = refl
+updates-drop (suc n) [] = rw (drop-nil (suc n * 4))
+updates-drop (suc n) (k ∷ []) = let e : suc n * 4 ≡ suc (n * 4 + 3) = omega arith in rw (e, drop-nil (n * 4 + 3))
+updates-drop (suc n) (k ∷ t ∷ []) = let e : suc n * 4 ≡ suc (suc (n * 4 + 2)) = omega arith in rw (e, drop-nil (n * 4 + 2))
+updates-drop (suc n) (k ∷ t ∷ a ∷ []) = let e : suc n * 4 ≡ suc (suc (suc (n * 4 + 1))) = omega arith in rw (e, drop-nil (n * 4 + 1))
+updates-drop (suc n) (k ∷ t ∷ a ∷ z ∷ ws) = let e : suc n * 4 ≡ suc (suc (suc (suc (n * 4)))) = omega arith in rw e (updates-drop n ws)
+
+updates-short : (ws : List ℕ) → length ws < 4 → updates ws ≡ []
+unfolding updates
+updates-short [] h = refl
+updates-short (k ∷ []) h = refl
+updates-short (k ∷ t ∷ []) h = refl
+updates-short (k ∷ t ∷ a ∷ []) h = refl
+updates-short (k ∷ t ∷ a ∷ z ∷ ws) h = absurd (omega arith)
+
+-- the record n, and the end of the records
+pub update-at : (b : List ℕ) (n : ℕ) → n < length b / 4 → drop n (updates b) ≡ recordAt b (n * 4) ∷ drop (n + 1) (updates b)
+update-at b n h =
+    let e : n * 4 + 4 ≡ (n + 1) * 4 = omega arith in
+    sym (updates-drop n b) ∙ updates-at b (n * 4) (omega arith) ∙ rw (e, updates-drop (n + 1) b)
+
+pub update-end : (b : List ℕ) (n : ℕ) → length b / 4 ≤ n → drop n (updates b) ≡ []
+update-end b n h = sym (updates-drop n b) ∙ updates-short (drop (n * 4) b) (simp length-drop (omega arith))
+
+-- the search for an addition: none stands between the record it started from and the record n
+pub record Seeks (b : List ℕ) (from k n : ℕ) : Type 0 where
+  pub before : from + beforeAdded k (drop from (updates b)) ≡ n + beforeAdded k (drop n (updates b))
+  pub pair : firstAdded k (drop from (updates b)) ≡ firstAdded k (drop n (updates b))
+
+pub seeks-start : (b : List ℕ) (from k : ℕ) → Seeks b from k from
+seeks-start b from k = record { before = refl; pair = refl }
+
+-- what is tested of the record at i
+abbrev pub addsAt : List ℕ → ℕ → ℕ → Bool
+addsAt b k i = eqb (getD b i 0) 1 && ltb k (rank (getD b (i + 1) 0) (getD b (i + 2) 0))
+
+pub seeks-turn : {b : List ℕ} {from k n : ℕ} → Seeks b from k n → n < length b / 4 → addsAt b k (n * 4) ≡ false → Seeks b from k (n + 1)
+unfolding firstAdded beforeAdded addsAbove
+seeks-turn {b} {from} {k} {n} s h e =
+    let more : n + suc (beforeAdded k (drop (n + 1) (updates b))) ≡ n + 1 + beforeAdded k (drop (n + 1) (updates b)) = omega arith in
+    record {
+      before = s .before ∙ rw (update-at b n h, e) more;
+      pair = s .pair ∙ rw (update-at b n h, e);
+    }
+
+pub seeks-found :
+    {b : List ℕ} {from k n : ℕ} → Seeks b from k n → n < length b / 4 → addsAt b k (n * 4) ≡ true →
+    record { at = n; rank = rank (getD b (n * 4 + 1) 0) (getD b (n * 4 + 2) 0) } ≡ nextAddition b from k
+unfolding firstAdded beforeAdded addsAbove nextAddition
+seeks-found {b} {from} {k} {n} s h e = rw (s .before, s .pair, update-at b n h, e, add-zero)
+
+pub seeks-end : {b : List ℕ} {from k n : ℕ} → Seeks b from k n → length b / 4 ≤ n → record { at = n; rank = 0 } ≡ nextAddition b from k
+unfolding firstAdded beforeAdded nextAddition
+seeks-end {b} {from} {k} {n} s h = rw (s .before, s .pair, update-end b n h, add-zero)
+
+-- what is in order from x on is in order from any lower number on, and so is the rest of it
+falls-lower : (us : List Update) (x y : ℕ) → y ≤ x → falls x us ≡ false → falls y us ≡ false
+unfolding falls
+falls-lower [] x y h e = refl
+falls-lower (u ∷ us) x y h e =
+    let here = rank (u .term) (u .from) in
+    let l : x ≤ here = ltb-false here x (or-left (ltb here x) (falls here us) e) in
+    or-both (ltb here y) (falls here us) (le-ltb here y (omega arith)) (or-right (ltb here x) (falls here us) e)
+
+pub falls-drop : (n : ℕ) (us : List Update) (x : ℕ) → falls x us ≡ false → falls 0 (drop n us) ≡ false
+unfolding falls
+falls-drop zero us x e = falls-lower us x 0 (omega arith) e
+falls-drop (suc n) [] x e = refl
+falls-drop (suc n) (u ∷ us) x e = falls-drop n us (rank (u .term) (u .from)) (or-right (ltb (rank (u .term) (u .from)) x) (falls (rank (u .term) (u .from)) us) e)
+
+no-rest : (v : Update) (rest : List Update) → [] ≡ v ∷ rest → ⊥
+no-rest v rest q = let z : _≡_ {A = ℕ} 0 1 = cc in omega arith
+
+each-at : (m : ℕ) (us : List Update) (v : Update) (rest : List Update) → EachUpdate OfWords us → drop m us ≡ v ∷ rest → OfWords v
+each-at m [] v rest w d = absurd (no-rest v rest (sym (drop-nil m) ∙ d))
+each-at zero (u ∷ us) v rest w d = let f : u ≡ v = cc in rw f at (w .0)
+each-at (suc m) (u ∷ us) v rest w d = each-at m us v rest (w .1) d
+
+-- the updates of a lower term than that of the update after m others are passed over
+low-first : (m : ℕ) (us : List Update) (x : ℕ) (v : Update) (rest : List Update) → falls x us ≡ false → drop m us ≡ v ∷ rest → x ≤ rank (v .term) (v .from)
+unfolding falls
+low-first m [] x v rest e d = absurd (no-rest v rest (sym (drop-nil m) ∙ d))
+low-first zero (u ∷ us) x v rest e d =
+    let f : u ≡ v = cc in
+    rw f at (ltb-false (rank (u .term) (u .from)) x (or-left (ltb (rank (u .term) (u .from)) x) (falls (rank (u .term) (u .from)) us) e))
+low-first (suc m) (u ∷ us) x v rest e d =
+    let here = rank (u .term) (u .from) in
+    let l : x ≤ here = ltb-false here x (or-left (ltb here x) (falls here us) e) in
+    omega (arith, low-first m us here v rest (or-right (ltb here x) (falls here us) e) d)
+
+passed-lower :
+    (m : ℕ) (us : List Update) (x t : ℕ) (v : Update) (rest : List Update) (f : Update → Bool) → falls x us ≡ false → EachUpdate OfWords us →
+    drop m us ≡ v ∷ rest → v .term < t → ((u : Update) → OfWords u → u .term < t → f u ≡ false) → anyUpdate f us ≡ anyUpdate f rest
+unfolding falls anyUpdate
+passed-lower m [] x t v rest f e w d l g = absurd (no-rest v rest (sym (drop-nil m) ∙ d))
+passed-lower zero (u ∷ us) x t v rest f e w d l g =
+    let p : u ≡ v = cc in
+    let q : us ≡ rest = cc in
+    rw (g u (w .0) (rw p l), q)
+passed-lower (suc m) (u ∷ us) x t v rest f e w d l g =
+    let here = rank (u .term) (u .from) in
+    let ordered : falls here us ≡ false = or-right (ltb here x) (falls here us) e in
+    let below : here ≤ rank (v .term) (v .from) = low-first m us here v rest ordered d in
+    let o : OfWords v = each-at m us v rest (w .1) d in
+    rw (g u (w .0) (omega arith)) (passed-lower m us here t v rest f ordered (w .1) d l g)
+
+-- the search for a term: the records before low have a lower term, if the batch is in order
+pub record Searches (b : List ℕ) (t low high : ℕ) : Type 0 where
+  pub order : low ≤ high
+  pub within : high ≤ length b / 4
+  pub before :
+      falls 0 (updates b) ≡ false → (f : Update → Bool) → ((u : Update) → OfWords u → u .term < t → f u ≡ false) →
+      anyUpdate f (updates b) ≡ anyUpdate f (drop low (updates b))
+
+pub searches-start : (b : List ℕ) (t : ℕ) → Searches b t 0 (length b / 4)
+searches-start b t = record { order = omega arith; within = omega arith; before = λ e f g. refl }
+
+EachUpdate-drop : (P : Update → Type 0) (n : ℕ) (us : List Update) → EachUpdate P us → EachUpdate P (drop n us)
+EachUpdate-drop P zero us a = a
+EachUpdate-drop P (suc n) [] a = tt
+EachUpdate-drop P (suc n) (u ∷ us) a = EachUpdate-drop P n us (a .1)
+
+pub searches-up :
+    {b : List ℕ} {t low high : ℕ} → Searches b t low high → Words b → (m : ℕ) → low ≤ m → m < high → getD b (m * 4 + 1) 0 < t →
+    Searches b t (m + 1) high
+searches-up {b} {t} {low} {high} s w m h l e =
+    record {
+      order = omega arith;
+      within = s .within;
+      before = λ o f g.
+          s .before o f g
+          ∙ passed-lower (m - low) (drop low (updates b)) 0 t (recordAt b (m * 4)) (drop (m + 1) (updates b)) f (falls-drop low (updates b) 0 o)
+          (EachUpdate-drop OfWords low (updates b) (words-updates b w))
+          (drop-drop (m - low) low (updates b) ∙ rw there (update-at b m (omega (arith, s .within)))) e g;
+    }
+  where
+    there : low + (m - low) ≡ m
+    there = omega arith
+
+pub searches-down : {b : List ℕ} {t low high : ℕ} → Searches b t low high → (m : ℕ) → low ≤ m → m < high → Searches b t low m
+searches-down s m h l = record { order = h; within = omega (arith, s .within); before = s .before }
+
+pub searches-end : {b : List ℕ} {t low high : ℕ} → Searches b t low high → high ≤ low → TermStart b t low
+searches-end s h = record { within = omega (arith, s .within, s .order); before = s .before }
+
+-- the walk over the records of a term: what they do to the pair is what the flags say of those read, or what the rest does
+pub record Walks (b : List ℕ) (start x : ℕ) (removed added : Bool) (n : ℕ) : Type 0 where
+  pub ordered : falls 0 (drop start (updates b)) ≡ false → falls 0 (drop n (updates b)) ≡ false
+  pub taken : anyUpdate (removes x) (drop start (updates b)) ≡ (removed || anyUpdate (removes x) (drop n (updates b)))
+  pub given : anyUpdate (adds x) (drop start (updates b)) ≡ (added || anyUpdate (adds x) (drop n (updates b)))
+
+pub walks-start : (b : List ℕ) (start x : ℕ) → Walks b start x false false start
+walks-start b start x = record { ordered = λ e. e; taken = refl; given = refl }
+
+-- the pairs of the record at i
+abbrev pub lowAt : List ℕ → ℕ → ℕ
+lowAt b i = rank (getD b (i + 1) 0) (getD b (i + 2) 0)
+
+abbrev pub highAt : List ℕ → ℕ → ℕ
+highAt b i = rank (getD b (i + 1) 0) (getD b (i + 3) 0)
+
+pub walks-turn :
+    {b : List ℕ} {start x : ℕ} {removed added : Bool} {n : ℕ} → Walks b start x removed added n → n < length b / 4 → lowAt b (n * 4) ≤ x →
+    Walks b start x (removed || (eqb (getD b (n * 4) 0) 2 && leb x (highAt b (n * 4)))) (added || (eqb (getD b (n * 4) 0) 1 && eqb x (lowAt b (n * 4)))) (n + 1)
+unfolding anyUpdate removes adds falls
+walks-turn {b} {start} {x} {removed} {added} {n} s h l =
+    record {
+      ordered = λ o. falls-lower (drop (n + 1) (updates b)) (lowAt b (n * 4)) 0 (omega arith) (or-right (ltb (lowAt b (n * 4)) 0) _ (rw (update-at b n h) at (s .ordered o)));
+      taken = s .taken ∙ rw (update-at b n h, le-leb (lowAt b (n * 4)) x l, and-true) (sym (or-assoc removed _ _));
+      given = s .given ∙ rw (update-at b n h) (sym (or-assoc added _ _));
+    }
+
+-- updates above a pair do nothing to it
+above-removes : (us : List Update) (x y : ℕ) → x < y → falls y us ≡ false → anyUpdate (removes x) us ≡ false
+unfolding anyUpdate removes falls
+above-removes [] x y l e = refl
+above-removes (u ∷ us) x y l e =
+    let here = rank (u .term) (u .from) in
+    let h : y ≤ here = ltb-false here y (or-left (ltb here y) (falls here us) e) in
+    rw (lt-leb here x (omega arith), above-removes us x here (omega arith) (or-right (ltb here y) (falls here us) e), and-false)
+
+above-adds : (us : List Update) (x y : ℕ) → x < y → falls y us ≡ false → anyUpdate (adds x) us ≡ false
+unfolding anyUpdate adds falls
+above-adds [] x y l e = refl
+above-adds (u ∷ us) x y l e =
+    let here = rank (u .term) (u .from) in
+    let h : y ≤ here = ltb-false here y (or-left (ltb here y) (falls here us) e) in
+    rw (ne-eqb x here (omega arith), above-adds us x here (omega arith) (or-right (ltb here y) (falls here us) e), and-false)
+
+walks-over :
+    {b : List ℕ} {start x : ℕ} {removed added : Bool} {n : ℕ} → Walks b start x removed added n → anyUpdate (removes x) (drop n (updates b)) ≡ false →
+    anyUpdate (adds x) (drop n (updates b)) ≡ false → (removed && not added) ≡ withdrawn (drop start (updates b)) x
+unfolding withdrawn
+walks-over {b} {start} {x} {removed} {added} {n} s e f = sym (rw (s .taken, s .given, e, f, or-false removed, or-false added))
+
+pub walks-stop :
+    {b : List ℕ} {start x : ℕ} {removed added : Bool} {n : ℕ} → Walks b start x removed added n → n < length b / 4 → x < lowAt b (n * 4) →
+    falls 0 (drop start (updates b)) ≡ false → (removed && not added) ≡ withdrawn (drop start (updates b)) x
+walks-stop {b} {start} {x} {removed} {added} {n} s h l o = walks-over s (above-removes (drop n (updates b)) x (lowAt b (n * 4)) l from) (above-adds (drop n (updates b)) x (lowAt b (n * 4)) l from)
+  where
+    from : falls (lowAt b (n * 4)) (drop n (updates b)) ≡ false
+    from = unfold falls in rw (update-at b n h) (or-both _ _ (le-ltb (lowAt b (n * 4)) (lowAt b (n * 4)) (omega arith)) (or-right (ltb (lowAt b (n * 4)) 0) _ (rw (update-at b n h) at (s .ordered o))))
+
+pub walks-end :
+    {b : List ℕ} {start x : ℕ} {removed added : Bool} {n : ℕ} → Walks b start x removed added n → length b / 4 ≤ n → (removed && not added) ≡ withdrawn (drop start (updates b)) x
+unfolding anyUpdate
+walks-end {b} {start} {x} {removed} {added} {n} s h = walks-over s (rw (update-end b n h)) (rw (update-end b n h))
+
+-- an update of a lower term does nothing to a pair
+lower-removes : (x : ℕ) (u : Update) → OfWords u → u .term < term x → removes x u ≡ false
+unfolding removes
+lower-removes x u w l = rw (lt-leb x (rank (u .term) (u .to)) (omega arith)) (and-false (eqb (u .kind) 2 && leb (rank (u .term) (u .from)) x))
+
+lower-adds : (x : ℕ) (u : Update) → OfWords u → u .term < term x → adds x u ≡ false
+unfolding adds
+lower-adds x u w l = rw (ne-eqb x (rank (u .term) (u .from)) (omega arith)) (and-false (eqb (u .kind) 1))
+
+-- the records of the pair's own term decide
+pub withdrawn-start : {b : List ℕ} {n : ℕ} (x : ℕ) → TermStart b (term x) n → falls 0 (updates b) ≡ false → withdrawn (updates b) x ≡ withdrawn (drop n (updates b)) x
+unfolding withdrawn
+withdrawn-start x s o = rw (s .before o (removes x) (lower-removes x), s .before o (adds x) (lower-adds x))
+
+-- in a batch in order the first addition above k is the least
+pub firstAdded-least : (us : List Update) (x k : ℕ) → falls x us ≡ false → firstAdded k us ≡ leastAdded k us
+unfolding firstAdded falls addsAbove
+firstAdded-least [] x k e = unfold leastAdded in refl
+firstAdded-least (u ∷ us) x k e =
+    let here = rank (u .term) (u .from) in
+    let o : falls here us ≡ false = or-right (ltb here x) (falls here us) e in
+    rw (leastAdded-first u us k o, firstAdded-least us here k o)
+
+-- the updates before it add nothing above k, nor above any j from k on
+pub leastAdded-before : (us : List Update) (k j : ℕ) → k ≤ j → leastAdded j us ≡ leastAdded j (drop (beforeAdded k us) us)
+unfolding leastAdded beforeAdded addsAbove
+leastAdded-before [] k j h = refl
+leastAdded-before (u ∷ us) k j h = go (eqb (u .kind) 1 && ltb k here) refl (leastAdded-before us k j h)
+  where
+    here : ℕ
+    here = rank (u .term) (u .from)
+
+    low : (eqb (u .kind) 1 && ltb k here) ≡ false → (eqb (u .kind) 1 && ltb j here) ≡ false
+    low e = not-holds (eqb (u .kind) 1 && ltb j here) (λ f.
+        let l : j < here = ltb-true j here (and-right (eqb (u .kind) 1) (ltb j here) f) in
+        false≢true (sym e ∙ and-both (eqb (u .kind) 1) (ltb k here) (and-left (eqb (u .kind) 1) (ltb j here) f) (lt-ltb k here (omega arith))))
+
+    go : (t : Bool) → (eqb (u .kind) 1 && ltb k here) ≡ t → leastAdded j us ≡ leastAdded j (drop (beforeAdded k us) us)
+        → cond (eqb (u .kind) 1 && ltb j here) (earlier here (leastAdded j us)) (leastAdded j us)
+        ≡ leastAdded j (drop (cond t 0 (suc (beforeAdded k us))) (u ∷ us))
+    go true e ih = refl
+    go false e ih = rw (low e) ih

@@ -1,0 +1,25 @@
+-- The answers of the C functions: flat numbers.
+use Prim.Native.Nat.{ℕ}
+use mathlib.Core.Path.{_≡_}
+use mathlib.Core.Bool.{Bool, cond}
+use mathlib.Core.List.{List}
+use Rattle.update.specs.Step.{Step}
+use Rattle.lookup.specs.Found.{Lookup}
+
+abbrev pub flag : Bool → ℕ
+flag b = cond b 1 0
+
+-- the reply, the numbers filled in and the card left are those of a step
+pub record Stepped (number write freed finished : ℕ) (card : List ℕ) (s : Step) : Type 0 where
+  pub ofNumber : number ≡ s .number
+  pub ofWrite : write ≡ s .write
+  pub ofFreed : freed ≡ s .freed
+  pub ofFinished : finished ≡ flag (s .finished)
+  pub ofCard : card ≡ s .card
+
+-- the reply, the numbers filled in and the answer words left are those of a lookup
+pub record LookedUp (number found blocks : ℕ) (answer : List ℕ) (l : Lookup) : Type 0 where
+  pub ofNumber : number ≡ l .number
+  pub ofFound : found ≡ l .count
+  pub ofBlocks : blocks ≡ l .blocks
+  pub ofAnswer : answer ≡ l .answer

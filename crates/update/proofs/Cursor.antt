@@ -1,0 +1,277 @@
+-- One pair after the other from the old segment: where the cursor stands after each way of going on.
+use Prim.Native.Nat.{ℕ, zero, suc, _+_, _*_, _-_, _%_, _≤_, _<_}
+use native.Mathlib.Omega.{arith}
+use native.Mathlib.Numerals.{add-one}
+use native.Mathlib.Nat.{mul-le-mul-right, mod-lt}
+use mathlib.Core.Path.{_≡_, refl, sym, ap, _∙_}
+use mathlib.Core.Bool.{Bool, true, false, cond, _&&_, not, false≢true}
+use mathlib.Core.Logic.{_≢_}
+use mathlib.Core.List.{List, [], _∷_, _++_}
+use lib.ListN.{length, take, drop, getD, length-take, length-drop}
+use lib.Seq.{drop-cons}
+use lib.Dec.{ltb, eqb}
+use borrow.Author.Tests.{ltb-true, ne-eqb, le-leb, lt-leb}
+use Rattle.pair.specs.Rank.{rank}
+use Rattle.pair.specs.Rising.{above, risingFrom}
+use Rattle.pair.proofs.Tests.{and-left, and-right, contradiction}
+use Rattle.pair.proofs.Rising.{rising-head, rising-tail}
+use Rattle.block.specs.Block.{pairsFrom, pairs, formedFrom, formed}
+use Rattle.block.specs.Scan.{readsOn}
+use Rattle.block.proofs.Walk.{reads-on, pairs-stops, unformed-start}
+use Rattle.card.specs.Layout.{blockSize, placeCount, entryWidth, firstPair, placeAt, place, around, pairsAt}
+use Rattle.card.specs.Scan.{Shaped}
+use Rattle.card.specs.Sound.{blocksSound}
+use Rattle.card.proofs.Judging.{place-part}
+use Rattle.update.specs.declared.old.OldCursor.{OldCursor}
+use Rattle.update.specs.Old.{rest, coming, pending, EntryAt, entryAtWords, Reading, Stands, Advanced}
+
+-- the words of a block from a word on, one word at a time
+rest-step : (c : List ℕ) (at end : ℕ) → at < end → end ≤ length c → rest c at end ≡ getD c at 0 ∷ rest c (at + 1) end
+rest-step c at end h l =
+    let e : end - at ≡ suc (end - (at + 1)) = omega arith in
+    let f : at + 1 ≡ suc at = omega arith in
+    rw (drop-cons c at 0 (omega arith), e, f)
+
+rest-length : (c : List ℕ) (at end : ℕ) → at ≤ end → end ≤ length c → length (rest c at end) ≡ end - at
+rest-length c at end h l = simp (length-take, length-drop) (omega arith)
+
+-- whether another entry is to be read at a word
+pub follows-short : (c : List ℕ) (at end : ℕ) → at ≤ end → end ≤ length c → end ≤ at + 2 → false ≡ readsOn (rest c at end)
+unfolding readsOn
+follows-short c at end h l e = rw (rest-length c at end h l, le-leb (end - at) 2 (omega arith))
+
+pub follows-at : (c : List ℕ) (at end : ℕ) → at ≤ end → end ≤ length c → at + 2 < end → not (eqb (getD c at 0) 0) ≡ readsOn (rest c at end)
+unfolding readsOn
+follows-at c at end h l e = rw (rest-length c at end h l, lt-leb (end - at) 2 (omega arith), rest-step c at end (omega arith) l)
+
+-- the pair found is the first of those to come
+found :
+    (c : List ℕ) (o r : OldCursor) → risingFrom (o .rank) (coming c o) ≡ true → coming c o ≡ r .rank ∷ coming c r →
+    (pending c r ≡ coming c o) × (risingFrom (r .rank) (coming c r) ≡ true)
+unfolding pending
+found c o r h e =
+    let f : risingFrom (o .rank) (r .rank ∷ coming c r) ≡ true = rw e at h in
+    let l : o .rank < r .rank = rising-head (r .rank) (coming c r) (o .rank) f in
+    (rw (ne-eqb (r .rank) 0 (omega arith)) (sym e), rising-tail (r .rank) (coming c r) (o .rank) f)
+
+-- another position of the term in hand
+formed-more : (ws : List ℕ) (t n p : ℕ) → 0 < n → formedFrom ws t n p ≡ true → 0 < length ws
+unfolding formedFrom
+formed-more [] t zero p h e = absurd (omega arith)
+formed-more [] t (suc n) p h e = absurd (false≢true e)
+formed-more (q ∷ ws) t n p h e = omega arith
+
+pub position-room : {c : List ℕ} {o : OldCursor} → Stands c o → 0 < o .count → o .at < o .end
+position-room {c} {o} s h =
+    let l = formed-more (rest c (o .at) (o .end)) (o .term) (o .count) (s .reading .position) h (s .reading .formed) in
+    omega (arith, rest-length c (o .at) (o .end) (s .inside) (s .ends))
+
+formed-position : (q : ℕ) (ws : List ℕ) (t n p : ℕ) → 0 < n → formedFrom (q ∷ ws) t n p ≡ true → formedFrom ws t (n - 1) q ≡ true
+unfolding formedFrom
+formed-position q ws t zero p h e = absurd (omega arith)
+formed-position q ws t (suc n) p h e = let f : suc n - 1 ≡ n = omega arith in rw f (and-right (ltb p q) (formedFrom ws t n q) e)
+
+pairs-position : (q : ℕ) (ws : List ℕ) (t n : ℕ) → 0 < n → pairsFrom (q ∷ ws) t n ≡ rank t q ∷ pairsFrom ws t (n - 1)
+unfolding pairsFrom
+pairs-position q ws t zero h = absurd (omega arith)
+pairs-position q ws t (suc n) h = let f : suc n - 1 ≡ n = omega arith in rw f
+
+pub advanced-position :
+    {c : List ℕ} {o : OldCursor} → Stands c o → 0 < o .count →
+    Advanced c o (record { place = o .place; places = o .places; at = o .at + 1; end = o .end; term = o .term; count = o .count - 1; rank = rank (o .term) (getD c (o .at) 0) })
+advanced-position {c} {o} s h = go (found c o r (s .rising) comes)
+  where
+    l : o .at < o .end
+    l = position-room s h
+
+    step : rest c (o .at) (o .end) ≡ getD c (o .at) 0 ∷ rest c (o .at + 1) (o .end)
+    step = rest-step c (o .at) (o .end) l (s .ends)
+
+    r : OldCursor
+    r = record { place = o .place; places = o .places; at = o .at + 1; end = o .end; term = o .term; count = o .count - 1; rank = rank (o .term) (getD c (o .at) 0) }
+
+    comes : coming c o ≡ r .rank ∷ coming c r
+    comes = unfold coming in rw (step, pairs-position (getD c (o .at) 0) (rest c (o .at + 1) (o .end)) (o .term) (o .count) h)
+
+    go : (pending c r ≡ coming c o) × (risingFrom (r .rank) (coming c r) ≡ true) → Advanced c o r
+    go f =
+        record {
+          stands = record {
+            shaped = s .shaped;
+            inside = omega (arith, l);
+            ends = s .ends;
+            few = s .few;
+            reading = record { position = getD c (o .at) 0; formed = formed-position (getD c (o .at) 0) (rest c (o .at + 1) (o .end)) (o .term) (o .count) (s .reading .position) h (rw step at (s .reading .formed)) };
+            sound = s .sound;
+            rising = f .1;
+          };
+          next = f .0;
+        }
+
+-- the first pair of an entry
+entry-list :
+    (a b q : ℕ) (ws : List ℕ) (t p : ℕ) → eqb a 0 ≡ false → formedFrom (a ∷ b ∷ q ∷ ws) t 0 p ≡ true →
+    (0 < b) × (pairsFrom (a ∷ b ∷ q ∷ ws) t 0 ≡ rank a q ∷ pairsFrom ws a (b - 1)) × (formedFrom ws a (b - 1) q ≡ true)
+unfolding formedFrom
+entry-list a b q ws t p e f =
+    let g : ((ltb t a && ltb 0 b) && formedFrom (q ∷ ws) a b 0) ≡ true = rw e at f in
+    let l : 0 < b = ltb-true 0 b (and-right (ltb t a) (ltb 0 b) (and-left (ltb t a && ltb 0 b) (formedFrom (q ∷ ws) a b 0) g)) in (
+      l,
+      unfold pairsFrom in rw e (pairs-position q ws a b l),
+      formed-position q ws a b 0 l (and-right (ltb t a && ltb 0 b) (formedFrom (q ∷ ws) a b 0) g),
+    )
+
+-- what an entry at a word gives
+pub record Entered (c : List ℕ) (at end t : ℕ) : Type 0 where
+  pub entry : EntryAt c at end
+  pub pairs : pairsFrom (rest c at end) t 0 ≡ rank (getD c at 0) (getD c (at + 2) 0) ∷ pairsFrom (rest c (at + 3) end) (getD c at 0) (getD c (at + 1) 0 - 1)
+  pub reading : Reading c (at + 3) end (getD c at 0) (getD c (at + 1) 0 - 1)
+
+pub entered : (c : List ℕ) (at end t : ℕ) → at ≤ end → end ≤ length c → Reading c at end t 0 → readsOn (rest c at end) ≡ true → Entered c at end t
+entered c at end t h l r e =
+    record {
+      entry = record { inside = room; ends = l; counted = read .0 };
+      pairs = rw three (read .1);
+      reading = record { position = getD c (at + 2) 0; formed = read .2 };
+    }
+  where
+    room : at + 2 < end
+    room = omega (arith, reads-on (rest c at end) e .0, rest-length c at end h l)
+
+    three : rest c at end ≡ getD c at 0 ∷ getD c (at + 1) 0 ∷ getD c (at + 2) 0 ∷ rest c (at + 3) end
+    three =
+        let f : at + 1 + 1 ≡ at + 2 = omega arith in
+        let g : at + 2 + 1 ≡ at + 3 = omega arith in
+        rest-step c at end (omega (arith, room)) l
+        ∙ rw (rest-step c (at + 1) end (omega (arith, room)) l, f, rest-step c (at + 2) end (omega (arith, room)) l, g)
+
+    nonzero : eqb (getD c at 0) 0 ≡ false
+    nonzero = rw three at (reads-on (rest c at end) e .1)
+
+    read : (0 < getD c (at + 1) 0)
+        × (pairsFrom (getD c at 0 ∷ getD c (at + 1) 0 ∷ getD c (at + 2) 0 ∷ rest c (at + 3) end) t 0 ≡ rank (getD c at 0) (getD c (at + 2) 0) ∷ pairsFrom (rest c (at + 3) end) (getD c at 0) (getD c (at + 1) 0 - 1))
+        × (formedFrom (rest c (at + 3) end) (getD c at 0) (getD c (at + 1) 0 - 1) (getD c (at + 2) 0) ≡ true)
+    read =
+        entry-list (getD c at 0) (getD c (at + 1) 0) (getD c (at + 2) 0) (rest c (at + 3) end) t (r .position) nonzero
+        (rw three at (r .formed))
+
+-- an entry read with the pairs of the places left behind it
+entry-stands :
+    (c : List ℕ) (o : OldCursor) (at end t m n : ℕ) → Stands c o → Entered c at end t → m + n ≤ 2048 →
+    blocksSound c (around (placeCount c) m n) ≡ true → coming c o ≡ pairsFrom (rest c at end) t 0 ++ pairsAt c (around (placeCount c) m n) →
+    Advanced c o (entryAtWords c at end m n)
+unfolding entryAtWords
+entry-stands c o at end t m n s e k b f = go (found c o r (s .rising) comes)
+  where
+    r : OldCursor
+    r = record { place = m; places = n; at = at + 3; end = end; term = getD c at 0; count = getD c (at + 1) 0 - 1; rank = rank (getD c at 0) (getD c (at + 2) 0) }
+
+    comes : coming c o ≡ r .rank ∷ coming c r
+    comes = f ∙ (unfold coming in rw (e .pairs))
+
+    go : (pending c r ≡ coming c o) × (risingFrom (r .rank) (coming c r) ≡ true) → Advanced c o r
+    go g =
+        record {
+          stands = record {
+            shaped = s .shaped;
+            inside = omega (arith, e .entry .inside);
+            ends = e .entry .ends;
+            few = k;
+            reading = e .reading;
+            sound = b;
+            rising = g .1;
+          };
+          next = g .0;
+        }
+
+pub entry-there : {c : List ℕ} {o : OldCursor} → Stands c o → o .count ≡ 0 → readsOn (rest c (o .at) (o .end)) ≡ true → EntryAt c (o .at) (o .end)
+entry-there {c} {o} s z e = entered c (o .at) (o .end) (o .term) (s .inside) (s .ends) (rw z at (s .reading)) e .entry
+
+pub advanced-entry : {c : List ℕ} {o : OldCursor} → Stands c o → o .count ≡ 0 → readsOn (rest c (o .at) (o .end)) ≡ true → Advanced c o (entryAtWords c (o .at) (o .end) (o .place) (o .places))
+advanced-entry {c} {o} s z e =
+    entry-stands c o (o .at) (o .end) (o .term) (o .place) (o .places) s (entered c (o .at) (o .end) (o .term) (s .inside) (s .ends) (rw z at (s .reading)) e) (s .few) (s .sound)
+    (unfold coming in rw z)
+
+-- the block in hand is read
+over : (c : List ℕ) (o : OldCursor) → o .count ≡ 0 → readsOn (rest c (o .at) (o .end)) ≡ false → coming c o ≡ pairsAt c (around (placeCount c) (o .place) (o .places))
+unfolding coming
+over c o z e = rw (z, pairs-stops (rest c (o .at) (o .end)) (o .term) e)
+
+pub advanced-end :
+    {c : List ℕ} {o : OldCursor} → Stands c o → o .count ≡ 0 → readsOn (rest c (o .at) (o .end)) ≡ false → o .places ≡ 0 →
+    Advanced c o (record { place = o .place; places = o .places; at = o .end; end = o .end; term = o .term; count = o .count; rank = 0 })
+advanced-end {c} {o} s z e n =
+    record {
+      stands = record {
+        shaped = s .shaped;
+        inside = omega arith;
+        ends = s .ends;
+        few = s .few;
+        reading = record { position = 0; formed = unfold formedFrom in rw (z, none) };
+        sound = s .sound;
+        rising = unfold coming around pairsAt pairsFrom risingFrom in rw (z, n, none);
+      };
+      next = unfold pending in sym (over c o z e ∙ (unfold around pairsAt in rw n));
+    }
+  where
+    none : o .end - o .end ≡ 0
+    none = omega arith
+
+abbrev mapped : List ℕ → ℕ → Bool
+mapped c i = eqb (firstPair c i) (getD (pairs (place c i)) 0 0)
+
+-- a place left: its block has an entry
+pub place-block : (c : List ℕ) (i : ℕ) (is : List ℕ) → blocksSound c (i ∷ is) ≡ true → (formed (place c i) ≡ true) × (blocksSound c is ≡ true)
+unfolding blocksSound
+place-block c i is e = (
+  and-left (formed (place c i)) (mapped c i) (and-left (formed (place c i) && mapped c i) (blocksSound c is) e),
+  and-right (formed (place c i) && mapped c i) (blocksSound c is) e,
+)
+
+formed-reads : (ws : List ℕ) → formed ws ≡ true → (formedFrom ws 0 0 0 ≡ true) × (readsOn ws ≡ true)
+formed-reads ws e = ((unfold formed in and-left (formedFrom ws 0 0 0) _ e), go (readsOn ws) refl)
+  where
+    go : (t : Bool) → readsOn ws ≡ t → readsOn ws ≡ true
+    go true f = f
+    go false f = contradiction (formed ws) e (unformed-start ws f)
+
+-- the places lie in the card
+pub place-inside : (c : List ℕ) (i : ℕ) → Shaped c → i < placeCount c → placeAt entryWidth c i + blockSize c ≤ length c
+place-inside c i s h = omega (arith, s .long, mul-le-mul-right (blockSize c) h)
+
+pub place-entered :
+    {c : List ℕ} {o : OldCursor} → Stands c o → o .count ≡ 0 → (o .places ≡ 0 → ⊥) →
+    Entered c (placeAt entryWidth c (o .place % placeCount c)) (placeAt entryWidth c (o .place % placeCount c) + blockSize c) 0
+place-entered {c} {o} s z n = go (o .places) refl n (s .sound)
+  where
+    i : ℕ
+    i = o .place % placeCount c
+
+    here : i < placeCount c
+    here = mod-lt (o .place) (omega (arith, s .shaped .countLow))
+
+    go : (m : ℕ) → o .places ≡ m → (m ≡ 0 → ⊥) → blocksSound c (around (placeCount c) (o .place) m) ≡ true → Entered c (placeAt entryWidth c i) (placeAt entryWidth c i + blockSize c) 0
+    go zero e k b = absurd (k refl)
+    go (suc m) e k b =
+        let f = place-block c i (around (placeCount c) (o .place + 1) m) (unfold around in b) in
+        let g = formed-reads (place c i) (f .0) in
+        entered c (placeAt entryWidth c i) (placeAt entryWidth c i + blockSize c) 0 (omega arith) (place-inside c i (s .shaped) here)
+        (record { position = 0; formed = rw (place-part c i) (g .0) }) (rw (place-part c i) (g .1))
+
+pub advanced-place :
+    {c : List ℕ} {o : OldCursor} → Stands c o → o .count ≡ 0 → readsOn (rest c (o .at) (o .end)) ≡ false → (o .places ≡ 0 → ⊥) →
+    Advanced c o (entryAtWords c (placeAt entryWidth c (o .place % placeCount c)) (placeAt entryWidth c (o .place % placeCount c) + blockSize c) (o .place + 1) (o .places - 1))
+advanced-place {c} {o} s z e n = go (o .places) refl n (s .sound) (over c o z e)
+  where
+    i : ℕ
+    i = o .place % placeCount c
+
+    go : (m : ℕ) → o .places ≡ m → (m ≡ 0 → ⊥) → blocksSound c (around (placeCount c) (o .place) m) ≡ true → coming c o ≡ pairsAt c (around (placeCount c) (o .place) m) →
+        Advanced c o (entryAtWords c (placeAt entryWidth c i) (placeAt entryWidth c i + blockSize c) (o .place + 1) (m - 1))
+    go zero w k b f = absurd (k refl)
+    go (suc m) w k b f =
+        let g = place-block c i (around (placeCount c) (o .place + 1) m) (unfold around in b) in
+        let l : suc m - 1 ≡ m = omega arith in
+        rw l
+        (entry-stands c o (placeAt entryWidth c i) (placeAt entryWidth c i + blockSize c) 0 (o .place + 1) m s (place-entered s z n) (omega (arith, s .few, w)) (g .1)
+        (f ∙ (unfold around pairsAt pairs in rw (place-part c i))))

@@ -1,0 +1,68 @@
+-- The loops of a write: words compared, words copied.
+use Prim.Native.Nat.{ℕ, zero, suc, _+_, _≤_, _<_, zero-le}
+use native.Mathlib.Omega.{arith}
+use native.Mathlib.Numerals.{add-one}
+use mathlib.Core.Path.{_≡_, refl, sym, ap, _∙_}
+use mathlib.Core.Bool.{Bool, true, false, _&&_, and-assoc, and-true, and-false}
+use mathlib.Core.Logic.{_≢_}
+use mathlib.Core.List.{List, [], _∷_}
+use lib.ListN.{length, take, drop, getD, set, length-set, drop-of-length-le}
+use lib.Seq.{sets, sets-eq, paste, paste-zero, paste-suc, drop-cons, take-all}
+use lib.Dec.{eqb}
+use Rattle.pair.specs.Rising.{same}
+
+-- the words up to i are compared: the lists are the same exactly where ok says so of these and the rest is the same
+pub record Compared (a b : List ℕ) (ok : Bool) (i : ℕ) : Type 0 where
+  pub long : length a ≡ length b
+  pub within : i ≤ length a
+  pub rest : same a b ≡ (ok && same (drop i a) (drop i b))
+
+pub compared-start : (a b : List ℕ) → length a ≡ length b → Compared a b true 0
+compared-start a b l = record { long = l; within = zero-le; rest = refl }
+
+pub compared-turn : {a b : List ℕ} {ok : Bool} {i : ℕ} → Compared a b ok i → i < length a → Compared a b (ok && eqb (getD a i 0) (getD b i 0)) (i + 1)
+unfolding same
+compared-turn {a} {b} {ok} {i} r h =
+    record {
+      long = r .long;
+      within = omega arith;
+      rest = r .rest ∙ rw (add-one, drop-cons a i 0 h, drop-cons b i 0 (omega (arith, r .long))) (sym (and-assoc ok (eqb (getD a i 0) (getD b i 0)) _));
+    }
+
+pub compared-end : {a b : List ℕ} {ok : Bool} {i : ℕ} → Compared a b ok i → length a ≤ i → ok ≡ same a b
+unfolding same
+compared-end {a} {b} {ok} {i} r h =
+    let l : length b ≤ i = omega (arith, r .long) in
+    sym (r .rest ∙ rw (drop-of-length-le a h, drop-of-length-le b l) (and-true ok))
+
+-- lists of other lengths are not the same
+pub same-lengths : (a b : List ℕ) → length a ≢ length b → false ≡ same a b
+unfolding same
+same-lengths [] [] n = absurd (n refl)
+same-lengths [] (y ∷ ys) n = refl
+same-lengths (x ∷ xs) [] n = refl
+same-lengths (x ∷ xs) (y ∷ ys) n = rw (← same-lengths xs ys (λ e. n (ap suc e))) (sym (and-false (eqb x y)))
+
+-- the words up to i are copied
+pub record Copied (d : List ℕ) (at : ℕ) (s e : List ℕ) (i : ℕ) : Type 0 where
+  pub fits : at + length s ≤ length d
+  pub within : i ≤ length s
+  pub long : length e ≡ length d
+  pub words : e ≡ paste d at s i
+
+pub copied-start : (d : List ℕ) (at : ℕ) (s : List ℕ) → at + length s ≤ length d → Copied d at s d 0
+copied-start d at s h = record { fits = h; within = zero-le; long = refl; words = paste-zero d at s }
+
+pub copied-turn : {d : List ℕ} {at : ℕ} {s e : List ℕ} {i : ℕ} → Copied d at s e i → i < length s → Copied d at s (set e (at + i) (getD s i 0)) (i + 1)
+copied-turn {d} {at} {s} {e} {i} r h =
+    record {
+      fits = r .fits;
+      within = omega arith;
+      long = length-set e (at + i) (getD s i 0) ∙ r .long;
+      words = ap (λ (l : List ℕ). set l (at + i) (getD s i 0)) (r .words) ∙ paste-suc d at s i 0 (omega (arith, r .fits)) h ∙ ap (paste d at s) (sym (add-one i));
+    }
+
+pub copied-end : {d : List ℕ} {at : ℕ} {s e : List ℕ} {i : ℕ} → Copied d at s e i → length s ≤ i → e ≡ sets d at s
+copied-end {d} {at} {s} {e} {i} r h =
+    let n : i ≡ length s = omega (arith, r .within) in
+    r .words ∙ rw (n, take-all (length s) s (omega arith)) (sym (sets-eq s d at (r .fits)))

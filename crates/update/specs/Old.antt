@@ -1,0 +1,74 @@
+-- The old segment read pair by pair: what is still to come after a place in it.
+use Prim.Native.Nat.{ℕ, _+_, _-_, _≤_, _<_}
+use mathlib.Core.Path.{_≡_}
+use mathlib.Core.Bool.{Bool, true, false, cond}
+use mathlib.Core.List.{List, [], _∷_, _++_}
+use lib.ListN.{length, take, drop, getD}
+use lib.Dec.{eqb}
+use Rattle.pair.specs.Rank.{rank}
+use Rattle.pair.specs.Rising.{above, risingFrom}
+use Rattle.block.specs.Block.{pairsFrom, formedFrom}
+use Rattle.card.specs.Layout.{placeCount, oldStart, oldLength, around, pairsAt}
+use Rattle.card.specs.Scan.{Shaped}
+use Rattle.card.specs.Sound.{blocksSound}
+use Rattle.update.specs.declared.old.OldCursor.{OldCursor}
+
+-- the words of a block from the word at on
+abbrev pub rest : List ℕ → ℕ → ℕ → List ℕ
+rest c at end = take (end - at) (drop at c)
+
+-- the old pairs after the one in hand
+unfoldable pub coming : List ℕ → OldCursor → List ℕ
+coming c o = pairsFrom (rest c (o .at) (o .end)) (o .term) (o .count) ++ pairsAt c (around (placeCount c) (o .place) (o .places))
+
+-- the old pairs from the one in hand on, none where there is none in hand
+unfoldable pub pending : List ℕ → OldCursor → List ℕ
+pending c o = cond (eqb (o .rank) 0) [] (o .rank ∷ coming c o)
+
+-- before the first pair
+abbrev pub started : List ℕ → OldCursor
+started c = record { place = oldStart c; places = oldLength c; at = 0; end = 0; term = 0; count = 0; rank = 0 }
+
+-- an entry stands at the word at of a block that ends at end
+pub record EntryAt (c : List ℕ) (at end : ℕ) : Type 0 where
+  pub inside : at + 2 < end
+  pub ends : end ≤ length c
+  pub counted : 0 < getD c (at + 1) 0
+
+-- its first pair is read
+unfoldable pub entryAtWords : List ℕ → ℕ → ℕ → ℕ → ℕ → OldCursor
+entryAtWords c at end place places =
+    record {
+      place = place;
+      places = places;
+      at = at + 3;
+      end = end;
+      term = getD c at 0;
+      count = getD c (at + 1) 0 - 1;
+      rank = rank (getD c at 0) (getD c (at + 2) 0);
+    }
+
+-- the words from at on are well formed, after some position of the term in hand
+pub record Reading (c : List ℕ) (at end t n : ℕ) : Type 0 where
+  pub position : ℕ
+  pub formed : formedFrom (rest c at end) t n position ≡ true
+
+-- the cursor stands in the card: its block and the places left are well formed, and the pairs to come rise
+pub record Stands (c : List ℕ) (o : OldCursor) : Type 0 where
+  pub shaped : Shaped c
+  pub inside : o .at ≤ o .end
+  pub ends : o .end ≤ length c
+  pub few : o .place + o .places ≤ 2048
+  pub reading : Reading c (o .at) (o .end) (o .term) (o .count)
+  pub sound : blocksSound c (around (placeCount c) (o .place) (o .places)) ≡ true
+  pub rising : risingFrom (o .rank) (coming c o) ≡ true
+
+-- one pair further
+pub record Advanced (c : List ℕ) (o r : OldCursor) : Type 0 where
+  pub stands : Stands c r
+  pub next : pending c r ≡ coming c o
+
+-- further to the pairs above k
+pub record Skipped (c : List ℕ) (o : OldCursor) (k : ℕ) (r : OldCursor) : Type 0 where
+  pub stands : Stands c r
+  pub next : pending c r ≡ above k (pending c o)

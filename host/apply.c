@@ -1,0 +1,142 @@
+/* Applies a batch to a card file, step by step. Each step changes the card in
+ * memory by one write; that write goes to the file and is on the medium before
+ * the next step. So the file holds a sound card at every moment, and a run that
+ * was cut short is completed by another with the same batch. Of the medium this
+ * asks that a sector is written whole or not at all: the configuration words
+ * stand in one sector, together with map entries. */
+#define _POSIX_C_SOURCE 200809L
+
+#include "apply.h"
+
+#include <inttypes.h>
+#include <stdio.h>
+#include <unistd.h>
+
+#include "batch_file.h"
+#include "card_file.h"
+#include "gameindex.h"
+#include "report.h"
+
+/* What a run has done so far: its writes by kind, of which each step makes one,
+ * and the old places that it freed. */
+struct progress {
+    uint32_t number;
+    bool finished;
+    uint64_t blocks;
+    uint64_t map_entries;
+    uint64_t configurations;
+    uint64_t freed;
+};
+
+static uint64_t steps_of(const struct progress *done) {
+    return done->blocks + done->map_entries + done->configurations;
+}
+
+/* ---- the pass */
+
+/* The place after the new segment, around the circle. Writes of a block and of
+ * a map entry go there, and leave it where it is. */
+static size_t due_place(const uint32_t *card) {
+    return (card[GI_CONFIG_OLD_START] + card[GI_CONFIG_OLD_LENGTH] + card[GI_CONFIG_NEW_LENGTH]) %
+           card[GI_CONFIG_PLACES];
+}
+
+/* Writes to the file what a step has just written in memory. */
+static int store(const struct card_file *card, uint32_t write, struct progress *done) {
+    size_t block_words = card->words[GI_CONFIG_BLOCK_WORDS];
+    size_t blocks = GI_CONFIG_WORDS + (size_t)GI_MAP_ENTRY_WORDS * card->words[GI_CONFIG_PLACES];
+    size_t due = due_place(card->words);
+    switch (write) {
+    case GI_WRITE_BLOCK:
+        done->blocks++;
+        return card_store(card, blocks + due * block_words, block_words);
+    case GI_WRITE_MAP_ENTRY:
+        done->map_entries++;
+        return card_store(card, GI_CONFIG_WORDS + due * GI_MAP_ENTRY_WORDS, GI_MAP_ENTRY_WORDS);
+    case GI_WRITE_CONFIGURATION:
+        done->configurations++;
+        return card_store(card, 0, GI_CONFIG_WORDS);
+    default:
+        return fault(card->path, "the library named an unknown write, %" PRIu32, write);
+    }
+}
+
+/* Shows on one line of a terminal how far the pass is. */
+static void show_progress(const struct progress *done, const uint32_t *card) {
+    fprintf(stderr, "\rstep %" PRIu64 ": new length %" PRIu32 ", old length %" PRIu32 "\033[K", steps_of(done),
+            card[GI_CONFIG_NEW_LENGTH], card[GI_CONFIG_OLD_LENGTH]);
+}
+
+/* Makes steps until the pass finishes, a step is refused or the file fails. */
+static int run_pass(const struct card_file *card, const struct batch *batch, struct progress *done) {
+    bool terminal = isatty(STDERR_FILENO);
+    int status = EXIT_DONE;
+    while (status == EXIT_DONE && !done->finished) {
+        uint32_t write;
+        uint32_t freed;
+        uint32_t finished;
+        done->number = gi_step(card->words, card->length, batch->words, batch->length, &write, &freed, &finished);
+        if (done->number != GI_DONE)
+            break;
+        status = store(card, write, done);
+        done->freed += freed;
+        done->finished = finished != 0;
+        if (terminal)
+            show_progress(done, card->words);
+    }
+    if (terminal)
+        fprintf(stderr, "\r\033[K");
+    return status;
+}
+
+/* ---- what is shown at its end */
+
+static void show_writes(const char *path, const char *what, const struct progress *done) {
+    printf("%s: %s; %" PRIu64 " %s%s, as many writes (%" PRIu64 " %s%s, %" PRIu64 " %s, %" PRIu64 " %s%s); %" PRIu64
+           " old %s%s freed\n",
+           path, what, COUNTED(steps_of(done), "step"), COUNTED(done->blocks, "block"), done->map_entries,
+           done->map_entries == 1 ? "map entry" : "map entries", COUNTED(done->configurations, "configuration"),
+           COUNTED(done->freed, "place"));
+}
+
+/* Shows how far a pass came that found no place for its next block. */
+static void show_reached(const char *path, const uint32_t *card) {
+    if (card[GI_CONFIG_NEW_LENGTH] == 0)
+        printf("%s: no pass is open; the index is as it was\n", path);
+    else
+        printf("%s: the pass stays open: it reached term %" PRIu32 ", position %" PRIu32
+               "; beyond that pair the index is as it was; an empty batch finishes the pass\n",
+               path, card[GI_CONFIG_BOUNDARY_TERM], card[GI_CONFIG_BOUNDARY_POSITION]);
+}
+
+/* Shows what a run has done and gives the exit status for it. */
+static int show_end(const struct card_file *card, const struct progress *done) {
+    if (done->finished) {
+        show_writes(card->path, "the pass is finished", done);
+        show_configuration(card->words);
+        return EXIT_DONE;
+    }
+    refused(card->path, done->number);
+    if (done->number == GI_CARD_FULL) {
+        show_writes(card->path, "stopped", done);
+        show_reached(card->path, card->words);
+        show_configuration(card->words);
+    }
+    return EXIT_REFUSED;
+}
+
+int run_apply(char **words) {
+    static struct batch batch;
+    struct card_file card;
+    int status = card_open(&card, words[0], true);
+    if (status != EXIT_DONE)
+        return status;
+    struct progress done = {0};
+    status = batch_read(&batch, words[1]);
+    if (status == EXIT_DONE)
+        status = run_pass(&card, &batch, &done);
+    if (status == EXIT_DONE)
+        status = show_end(&card, &done);
+    int closed = card_close(&card);
+    return status != EXIT_DONE ? status : closed;
+}

@@ -1,0 +1,198 @@
+/* Tests of gi_lookup: the small cases with every figure, open passes, the counts
+ * of blocks, and the refusals. */
+#include "small_cards.h"
+
+/* Positions as two arguments: the words and their number. */
+#define FOUND(...) (const uint32_t[]){__VA_ARGS__}, sizeof((uint32_t[]){__VA_ARGS__}) / sizeof(uint32_t)
+#define NONE (const uint32_t[]){UNUSED}, 0
+
+/* Looks up with an answer of some words, a word on either side, and sees that the
+ * number, the counts and every word lent are as expected. */
+static void ask(struct card card, size_t length, uint32_t term, uint32_t from, uint32_t to, size_t answer_length,
+                uint32_t number, const uint32_t *positions, size_t count, uint32_t blocks, const char *group,
+                const char *what) {
+    uint32_t *memory = malloc((answer_length + 2) * sizeof *memory);
+    check(memory != NULL, group, "memory for the answer");
+    if (memory == NULL)
+        return;
+    for (size_t i = 0; i < answer_length + 2; i++)
+        memory[i] = UNUSED;
+    struct card before = card;
+    uint32_t found = UNUSED;
+    uint32_t blocks_read = UNUSED;
+    check_number(gi_lookup(card.words, length, term, from, to, memory + 1, answer_length, &found, &blocks_read), number,
+                 group, what);
+    check_number(found, (uint32_t)count, group, what);
+    check_number(blocks_read, blocks, group, what);
+    bool as_expected = memory[0] == UNUSED;
+    for (size_t i = 0; i <= answer_length; i++)
+        as_expected = as_expected && memory[1 + i] == (i < count ? positions[i] : UNUSED);
+    check(as_expected, group, what);
+    check(memcmp(card.words, before.words, sizeof before.words) == 0, group, "the lookup wrote nothing to the card");
+    free(memory);
+}
+
+/* A question that is answered, with just enough answer words, one more and many;
+ * with one too few it is refused. */
+static void found(struct card card, uint32_t term, uint32_t from, uint32_t to, const uint32_t *positions, size_t count,
+                  uint32_t blocks, const char *group, const char *what) {
+    ask(card, WORDS, term, from, to, count, GI_DONE, positions, count, blocks, group, what);
+    ask(card, WORDS, term, from, to, count + 1, GI_DONE, positions, count, blocks, group, what);
+    ask(card, WORDS, term, from, to, WORDS, GI_DONE, positions, count, blocks, group, what);
+    for (size_t fewer = 0; fewer < count; fewer++)
+        ask(card, WORDS, term, from, to, fewer, GI_LOOKUP_ANSWER, NONE, 0, group, "fewer answer words");
+}
+
+static void small_cases(void) {
+    found(case1(), 5, 1, 9, FOUND(2, 9), 1, "case 7", "5 from 1 to 9");
+    found(case1(), 5, 3, 8, NONE, 1, "case 7", "5 from 3 to 8");
+    found(case1(), 4, 1, 9, NONE, 0, "case 8", "4 from 1 to 9");
+    found(case1(), 6, 1, 9, NONE, 1, "case 8", "6 from 1 to 9");
+}
+
+static void ranges(void) {
+    const char *group = "range";
+    found(case1(), 5, 2, 2, FOUND(2), 1, group, "the first position alone");
+    found(case1(), 5, 9, 9, FOUND(9), 1, group, "the last position alone");
+    found(case1(), 5, 1, 2, FOUND(2), 1, group, "up to the first position");
+    found(case1(), 5, 1, 1, NONE, 0, group, "up to below the first position");
+    found(case1(), 5, 3, 9, FOUND(9), 1, group, "above the first position");
+    found(case1(), 5, 10, UINT32_MAX, NONE, 1, group, "above the last position");
+    found(case1(), 5, GI_LOWEST, GI_HIGHEST, FOUND(2, 9), 1, group, "all of the first term");
+    found(case1(), 7, GI_LOWEST, GI_HIGHEST, FOUND(4), 1, group, "all of the last term");
+    found(case1(), 1, GI_LOWEST, GI_HIGHEST, NONE, 0, group, "the lowest term");
+    found(case1(), UINT32_MAX, GI_LOWEST, GI_HIGHEST, NONE, 1, group, "the highest term");
+    found(CARD(1, 8, 4, 2, 0, 0, 0, 0), 5, GI_LOWEST, GI_HIGHEST, NONE, 0, group, "an empty index");
+    struct card ends = WITH(CARD(1, 8, 4, 3, 1, 0, 0, 0), 3, 1, 1, 1, UINT32_MAX, 1, UINT32_MAX, 0, 0);
+    found(ends, 1, GI_LOWEST, GI_HIGHEST, FOUND(1), 1, group, "the lowest pair");
+    found(ends, UINT32_MAX, GI_LOWEST, GI_HIGHEST, FOUND(UINT32_MAX), 1, group, "the highest pair");
+    found(ends, UINT32_MAX, UINT32_MAX, UINT32_MAX, FOUND(UINT32_MAX), 1, group, "the highest pair alone");
+}
+
+static void many_blocks(void) {
+    const char *group = "several blocks";
+    found(case3(), 5, 1, 9, FOUND(2, 9), 1, group, "in the first of two");
+    found(case3(), 7, 1, 9, FOUND(4), 1, group, "last in the first of two");
+    found(case3(), 8, 1, 9, FOUND(1), 1, group, "in the second of two");
+    found(case3(), 8, 2, 9, NONE, 1, group, "beyond the second of two");
+
+    struct card card = WITH(CARD(1, 8, 4, 2, 3, 0, 0, 0), 2, 6, 6, 1, 2, 3, 4, 5, 6);
+    card = WITH(WITH(card, 3, 6, 6, 7, 8, 9, 10, 11, 12), 0, 6, 1, 13, 9, 1, 1, 0, 0);
+    found(card, 6, 1, UINT32_MAX, FOUND(1, 2, 3, 4, 5, 6, 7, 8, 9, 10, 11, 12, 13), 3, group, "a term over three");
+    found(card, 6, 6, 7, FOUND(6, 7), 2, group, "the end of one and the start of the next");
+    found(card, 6, 7, 12, FOUND(7, 8, 9, 10, 11, 12), 1, group, "the one in the middle");
+    found(card, 6, 8, 13, FOUND(8, 9, 10, 11, 12, 13), 2, group, "from the middle around the circle");
+    found(card, 6, 13, 13, FOUND(13), 1, group, "the last position");
+    found(card, 6, 14, 99, NONE, 1, group, "beyond the last position");
+    found(card, 9, 1, 9, FOUND(1), 1, group, "a term within the last block");
+    found(card, 5, 1, 99, NONE, 0, group, "a term before all");
+    found(card, 7, 1, 99, NONE, 1, group, "a term that is not there");
+}
+
+/* Pairs up to the boundary come from the new segment, others from the old. */
+static void open_pass(void) {
+    const char *group = "an open pass";
+    found(wrapped(), 1, 1, 9, FOUND(1, 2), 1, group, "a term of the new segment");
+    found(wrapped(), 2, 1, 9, FOUND(1, 5), 2, group, "a term of both, the boundary once");
+    found(wrapped(), 2, 1, 1, FOUND(1), 2, group, "the boundary alone");
+    found(wrapped(), 2, 2, 9, FOUND(5), 2, group, "above the boundary");
+    found(wrapped(), 3, 1, 9, FOUND(1), 2, group, "a term of the old segment");
+    found(wrapped(), 4, 1, 9, FOUND(9), 3, group, "a term of the old segment around the circle");
+    found(wrapped(), 4, 9, 9, FOUND(9), 2, group, "it alone");
+    found(wrapped(), 4, 1, 8, NONE, 2, group, "below it");
+
+    /* the old block still holds (1,1) and (2,1), which the batch has removed */
+    struct card card = WITH(CARD(1, 8, 4, 0, 1, 1, 2, 3), 0, 1, 1, 1, 2, 3, 1, 3, 4);
+    card = WITH(card, 1, 2, 1, 3, 0, 0, 0, 0, 0);
+    found(card, 1, 1, 9, NONE, 1, group, "a pair removed below the boundary");
+    found(card, 2, 1, 9, FOUND(3, 4), 2, group, "a removed pair of the boundary's term");
+}
+
+/* What a pass shows while it goes on, from case 1 to case 3. */
+static void during_a_pass(void) {
+    const char *group = "during a pass";
+    const uint32_t batch[] = {GI_RECORD_ADD, 8, 1, 1};
+    struct card card = case1();
+    for (int step = 1; step <= 6; step++) {
+        uint32_t write;
+        uint32_t freed;
+        uint32_t finished;
+        check_number(gi_step(card.words, WORDS, batch, 4, &write, &freed, &finished), GI_DONE, group, "the step");
+        found(card, 5, 1, 99, FOUND(2, 9), 1, group, "5");
+        found(card, 7, 1, 99, FOUND(4), 1, group, "7");
+        if (step < 6)
+            found(card, 8, 1, 99, NONE, 1, group, "8 before its end");
+        else
+            found(card, 8, 1, 99, FOUND(1), 1, group, "8 at its end");
+    }
+}
+
+/* One pair in each of the 1,023 places of the largest card, around the circle. */
+static void largest(void) {
+    const char *group = "lookup on the largest card";
+    enum { START = 1000, LIVE = 1023, BLOCKS_AT = GI_CONFIG_WORDS + 2 * 1024 };
+    uint32_t *card = calloc(GI_CARD_WORDS_MAX, sizeof *card);
+    check(card != NULL, group, "memory for the card");
+    if (card == NULL)
+        return;
+    gi_format(card, GI_CARD_WORDS_MAX, 1024, 1024);
+    card[GI_CONFIG_OLD_START] = START;
+    card[GI_CONFIG_OLD_LENGTH] = LIVE;
+    for (uint32_t k = 0; k < LIVE; k++) {
+        uint32_t place = (START + k) % 1024;
+        uint32_t *block = card + BLOCKS_AT + (size_t)place * 1024;
+        block[0] = card[GI_CONFIG_WORDS + 2 * place] = 1 + k / 3;
+        block[1] = 1;
+        block[2] = card[GI_CONFIG_WORDS + 2 * place + 1] = 1 + k % 3;
+    }
+    for (uint32_t term = 1; term <= LIVE / 3; term++) {
+        uint32_t answer[4] = {UNUSED, UNUSED, UNUSED, UNUSED};
+        uint32_t count;
+        uint32_t blocks;
+        check_number(gi_lookup(card, GI_CARD_WORDS_MAX, term, 1, 9, answer, 4, &count, &blocks), GI_DONE, group,
+                     "not refused");
+        check(count == 3 && answer[0] == 1 && answer[1] == 2 && answer[2] == 3 && answer[3] == UNUSED, group,
+              "three positions");
+        check_number(blocks, 3, group, "three blocks");
+        check_number(gi_lookup(card, GI_CARD_WORDS_MAX, term, 2, 2, answer, 1, &count, &blocks), GI_DONE, group,
+                     "not refused");
+        check(count == 1 && answer[0] == 2 && blocks == 1, group, "one position in one block");
+    }
+    free(card);
+}
+
+/* ---- refusals */
+
+static void refused(struct card card, size_t length, uint32_t term, uint32_t from, uint32_t to, uint32_t number,
+                    const char *what) {
+    ask(card, length, term, from, to, 0, number, NONE, 0, "refused lookup", what);
+    ask(card, length, term, from, to, 8, number, NONE, 0, "refused lookup", what);
+}
+
+static void refusals(void) {
+    refused(case1(), WORDS, 0, 1, 9, 9, "term 0");
+    refused(case1(), WORDS, 5, 0, 9, 9, "from 0");
+    refused(case1(), WORDS, 5, 0, 0, 9, "from 0 to 0");
+    refused(case1(), WORDS, 5, 1, 0, 9, "to 0");
+    refused(case1(), WORDS, 5, 9, 8, 9, "from above to");
+    refused(case1(), WORDS, 5, UINT32_MAX, 1, 9, "from the highest to the lowest");
+    refused(case1(), WORDS, 0, 0, 0, 9, "all 0");
+    refused(CARD(1, 8, 4, 0, 0, 0, 0, 0), WORDS, 0, 1, 9, 9, "term 0 of an empty index");
+    for (size_t length = 0; length < WORDS; length += 5)
+        refused(case1(), length, 0, 1, 9, 1, "1 before 9");
+    refused(changed(case1(), GI_CONFIG_FORMAT, 0), WORDS, 0, 1, 9, 2, "2 before 9");
+    refused(changed(case1(), GI_CONFIG_BLOCK_WORDS, 7), WORDS, 5, 9, 8, 3, "3 before 9");
+    refused(changed(case1(), GI_CONFIG_BOUNDARY_TERM, 7), WORDS, 5, 1, 9, 3, "3, a good question");
+    refused(changed(case1(), map_word(0, 0), 4), WORDS, 5, 0, 9, 4, "4 before 9");
+    refused(changed(case1(), place_word(0, 7), 1), WORDS, 5, 1, 9, 4, "4, a good question");
+}
+
+void test_lookup(void) {
+    small_cases();
+    ranges();
+    many_blocks();
+    open_pass();
+    during_a_pass();
+    largest();
+    refusals();
+}

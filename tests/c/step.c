@@ -1,0 +1,333 @@
+/* Tests of gi_step: the small cases with every figure, passes around the circle,
+ * the batch's limits, and the refusals. */
+#include "small_cards.h"
+
+/* What a step answers. */
+struct answer {
+    uint32_t number;
+    uint32_t write;
+    uint32_t freed;
+    uint32_t finished;
+};
+
+/* A batch as two arguments: its words and their number. */
+#define BATCH(...) (const uint32_t[]){__VA_ARGS__}, sizeof((uint32_t[]){__VA_ARGS__}) / sizeof(uint32_t)
+#define NO_RECORDS (const uint32_t[]){UNUSED}, 0
+#define ADD(term, position) GI_RECORD_ADD, term, position, position
+#define REMOVE(term, from, to) GI_RECORD_REMOVE, term, from, to
+
+/* Makes one step on a copy of a card, with a word on either side that must
+ * stand, and sees that its answer and every word are the expected ones. */
+static void step_on(const uint32_t *card, size_t length, const uint32_t *batch, size_t batch_length,
+                    struct answer expected, const uint32_t *after, const char *group, const char *what) {
+    uint32_t *memory = malloc((length + 2) * sizeof *memory);
+    uint32_t *records = malloc((batch_length + 1) * sizeof *records);
+    check(memory != NULL && records != NULL, group, "memory for card and batch");
+    if (memory != NULL && records != NULL) {
+        memory[0] = memory[length + 1] = UNUSED;
+        memcpy(memory + 1, card, length * sizeof *card);
+        memcpy(records, batch, batch_length * sizeof *batch);
+        struct answer got = {UNUSED, UNUSED, UNUSED, UNUSED};
+        got.number = gi_step(memory + 1, length, records, batch_length, &got.write, &got.freed, &got.finished);
+        check_number(got.number, expected.number, group, what);
+        check_number(got.write, expected.write, group, what);
+        check_number(got.freed, expected.freed, group, what);
+        check_number(got.finished, expected.finished, group, what);
+        check(memcmp(memory + 1, after, length * sizeof *after) == 0, group, what);
+        check(memory[0] == UNUSED && memory[length + 1] == UNUSED, group, "the words beside the card stand");
+        check(memcmp(records, batch, batch_length * sizeof *batch) == 0, group, "the batch stands");
+    }
+    free(memory);
+    free(records);
+}
+
+/* A step that makes a write; gives the card after it. */
+static struct card step_to(struct card card, const uint32_t *batch, size_t batch_length, struct answer expected,
+                           struct card after, const char *group, const char *what) {
+    step_on(card.words, WORDS, batch, batch_length, expected, after.words, group, what);
+    check_number(gi_judge(after.words, WORDS), GI_DONE, group, "the card after it is sound");
+    return after;
+}
+
+/* A step that is refused. */
+static void step_refused(struct card card, const uint32_t *batch, size_t batch_length, uint32_t number,
+                         const char *group, const char *what) {
+    step_on(card.words, WORDS, batch, batch_length, (struct answer){number, 0, 0, 0}, card.words, group, what);
+}
+
+/* ---- the three writes */
+
+/* The card with a block at a place, the map as it was. */
+static struct card block_written(struct card card, uint32_t place, const uint32_t block[B]) {
+    memcpy(card.words + PLACES + place * B, block, B * sizeof(uint32_t));
+    return card;
+}
+
+static struct card configured(struct card card, const uint32_t configuration[GI_CONFIG_WORDS]) {
+    memcpy(card.words, configuration, GI_CONFIG_WORDS * sizeof(uint32_t));
+    return card;
+}
+
+#define WORDS_8(...)                                                                                                   \
+    (const uint32_t[8]) {                                                                                              \
+        __VA_ARGS__                                                                                                    \
+    }
+
+/* The three steps of a due block: its words, its map entry, the configuration. */
+static struct card lands(struct card card, const uint32_t *batch, size_t batch_length, uint32_t place,
+                         const uint32_t block[B], const uint32_t configuration[GI_CONFIG_WORDS], uint32_t freed,
+                         uint32_t finished, const char *what) {
+    card = step_to(card, batch, batch_length, (struct answer){0, GI_WRITE_BLOCK, 0, 0},
+                   block_written(card, place, block), what, "the block");
+    card = step_to(card, batch, batch_length, (struct answer){0, GI_WRITE_MAP_ENTRY, 0, 0},
+                   with_block(card, place, block), what, "the map entry");
+    return step_to(card, batch, batch_length, (struct answer){0, GI_WRITE_CONFIGURATION, freed, finished},
+                   configured(card, configuration), what, "the configuration");
+}
+
+static struct card zeros(void) {
+    struct card card = {{GI_FORMAT, B, N}};
+    return card;
+}
+
+/* ---- the small cases */
+
+#define BATCH_1 BATCH(ADD(5, 2), ADD(5, 9), ADD(7, 4))
+#define BLOCK_1 WORDS_8(5, 2, 2, 9, 7, 1, 4, 0)
+
+static void case_1(void) {
+    lands(zeros(), BATCH_1, 0, BLOCK_1, WORDS_8(1, 8, 4, 0, 1, 0, 0, 0), 0, 1, "case 1");
+    struct card used = CARD(1, 8, 4, 0, 0, 0, 0, 0);
+    lands(used, BATCH_1, 0, BLOCK_1, WORDS_8(1, 8, 4, 0, 1, 0, 0, 0), 0, 1, "case 1 on a used card");
+
+    struct card block_there = block_written(used, 0, BLOCK_1);
+    struct card there = with_block(used, 0, BLOCK_1);
+    step_to(block_there, BATCH_1, (struct answer){0, GI_WRITE_MAP_ENTRY, 0, 0}, there, "case 1", "its block is there");
+    step_to(there, BATCH_1, (struct answer){0, GI_WRITE_CONFIGURATION, 0, 1},
+            configured(there, WORDS_8(1, 8, 4, 0, 1, 0, 0, 0)), "case 1", "block and map entry are there");
+    for (uint32_t i = 0; i < B; i++)
+        step_to(changed(there, place_word(0, i), 77), BATCH_1, (struct answer){0, GI_WRITE_BLOCK, 0, 0}, there,
+                "case 1", "one word of the place differs");
+    for (uint32_t i = 0; i < GI_MAP_ENTRY_WORDS; i++)
+        step_to(changed(there, map_word(0, i), 77), BATCH_1, (struct answer){0, GI_WRITE_MAP_ENTRY, 0, 0}, there,
+                "case 1", "one word of the map entry differs");
+}
+
+static void cases_2_3(void) {
+    lands(case1(), BATCH(ADD(7, 11)), 1, WORDS_8(5, 2, 2, 9, 7, 2, 4, 11), WORDS_8(1, 8, 4, 1, 1, 0, 0, 0), 1, 1,
+          "case 2");
+    struct card card = lands(case1(), BATCH(ADD(8, 1)), 1, BLOCK_1, WORDS_8(1, 8, 4, 1, 0, 1, 7, 4), 1, 0, "case 3");
+    lands(card, BATCH(ADD(8, 1)), 2, WORDS_8(8, 1, 1, 0, 0, 0, 0, 0), WORDS_8(1, 8, 4, 1, 2, 0, 0, 0), 0, 1,
+          "case 3, the second block");
+}
+
+static void case_4(void) {
+    const char *group = "case 4";
+    enum { WORDS_2 = 28, BYTES_2 = WORDS_2 * sizeof(uint32_t) };
+    static const uint32_t start[WORDS_2] = {1, 8, 2, 0, 1, 0, 0, 0, 5, 2, 0, 0, 5, 2, 2, 9, 7, 1, 4};
+    static const uint32_t copied[WORDS_2] = {1, 8, 2, 0, 1, 0, 0, 0, 5, 2, 0, 0, 5, 2,
+                                             2, 9, 7, 1, 4, 0, 5, 2, 2, 9, 7, 1, 4};
+    uint32_t mapped[WORDS_2];
+    memcpy(mapped, copied, BYTES_2);
+    mapped[10] = 5;
+    mapped[11] = 2;
+    uint32_t stops[WORDS_2];
+    memcpy(stops, mapped, BYTES_2);
+    memcpy(stops, WORDS_8(1, 8, 2, 1, 0, 1, 7, 4), GI_CONFIG_WORDS * sizeof(uint32_t));
+    uint32_t finished[WORDS_2];
+    memcpy(finished, mapped, BYTES_2);
+    memcpy(finished, WORDS_8(1, 8, 2, 1, 1, 0, 0, 0), GI_CONFIG_WORDS * sizeof(uint32_t));
+
+    step_on(start, WORDS_2, BATCH(ADD(8, 1)), (struct answer){0, 1, 0, 0}, copied, group, "the block");
+    step_on(copied, WORDS_2, BATCH(ADD(8, 1)), (struct answer){0, 2, 0, 0}, mapped, group, "the map entry");
+    step_on(mapped, WORDS_2, BATCH(ADD(8, 1)), (struct answer){0, 3, 1, 0}, stops, group, "the configuration");
+    step_on(stops, WORDS_2, BATCH(ADD(8, 1)), (struct answer){8, 0, 0, 0}, stops, group, "it stops");
+    step_on(stops, WORDS_2, BATCH(ADD(8, 1), ADD(7, 4)), (struct answer){7, 0, 0, 0}, stops, group, "7 before 8");
+    step_on(stops, WORDS_2, NO_RECORDS, (struct answer){0, 3, 0, 1}, finished, group, "the empty batch");
+    check_number(gi_judge(finished, WORDS_2), GI_DONE, group, "sound in the end");
+}
+
+static void cases_5_6(void) {
+    lands(case1(), BATCH(REMOVE(5, 2, 9), ADD(5, 9)), 1, WORDS_8(5, 1, 9, 7, 1, 4, 0, 0),
+          WORDS_8(1, 8, 4, 1, 1, 0, 0, 0), 1, 1, "case 5");
+    struct card empty = configured(case1(), WORDS_8(1, 8, 4, 1, 0, 0, 0, 0));
+    step_to(case1(), BATCH(REMOVE(5, 1, UINT32_MAX), REMOVE(7, 1, UINT32_MAX)), (struct answer){0, 3, 1, 1}, empty,
+            "case 6", "one step");
+    step_to(case1(), BATCH(REMOVE(5, 2, 9), REMOVE(7, 4, 4)), (struct answer){0, 3, 1, 1}, empty, "case 6",
+            "both terms, no further than they go");
+}
+
+/* ---- what a batch does */
+
+static void batches(void) {
+    const char *group = "batch";
+    struct card fresh = CARD(1, 8, 4, 0, 0, 0, 0, 0);
+    const uint32_t *one = WORDS_8(1, 8, 4, 0, 1, 0, 0, 0);
+    const uint32_t *next = WORDS_8(1, 8, 4, 1, 1, 0, 0, 0);
+    step_to(fresh, NO_RECORDS, (struct answer){0, 3, 0, 1}, fresh, group, "no records, no pairs");
+    step_to(fresh, BATCH(REMOVE(5, 1, 9)), (struct answer){0, 3, 0, 1}, fresh, group, "a removal, no pairs");
+    lands(case1(), NO_RECORDS, 1, BLOCK_1, next, 1, 1, "no records: the index as it was");
+    lands(case1(), BATCH(ADD(5, 2), ADD(5, 2), ADD(7, 4)), 1, BLOCK_1, next, 1, 1, "additions of pairs that are there");
+    lands(case1(), BATCH(REMOVE(5, 3, 8), REMOVE(6, 1, 99), REMOVE(7, 5, 9)), 1, BLOCK_1, next, 1, 1,
+          "removals of pairs that are not there");
+    lands(case1(), BATCH(REMOVE(5, 1, 2), REMOVE(5, 1, 1), REMOVE(7, 4, 9)), 1, WORDS_8(5, 1, 9, 0, 0, 0, 0, 0), next,
+          1, 1, "removals of some");
+    lands(case1(), BATCH(REMOVE(5, 1, 20), REMOVE(5, 3, 4)), 1, WORDS_8(7, 1, 4, 0, 0, 0, 0, 0), next, 1, 1,
+          "a removal that reaches over the next");
+    lands(case1(), BATCH(ADD(5, 2), REMOVE(5, 2, 9)), 1, WORDS_8(5, 1, 2, 7, 1, 4, 0, 0), next, 1, 1,
+          "an addition before its removal");
+    lands(fresh, BATCH(ADD(1, 1), ADD(UINT32_MAX, UINT32_MAX)), 0, WORDS_8(1, 1, 1, UINT32_MAX, 1, UINT32_MAX, 0, 0),
+          one, 0, 1, "the lowest and the highest pair");
+    lands(fresh, BATCH(ADD(3, 1), ADD(3, 2), ADD(3, 3), ADD(3, 4), ADD(3, 5), ADD(3, 6)), 0,
+          WORDS_8(3, 6, 1, 2, 3, 4, 5, 6), one, 0, 1, "six positions fill a block");
+
+    struct card card = lands(fresh, BATCH(ADD(3, 1), ADD(3, 2), ADD(3, 3), ADD(3, 4), ADD(3, 5), ADD(3, 6), ADD(3, 7)),
+                             0, WORDS_8(3, 6, 1, 2, 3, 4, 5, 6), WORDS_8(1, 8, 4, 0, 0, 1, 3, 6), 0, 0,
+                             "a term that goes on in the next block");
+    lands(card, BATCH(ADD(3, 7)), 1, WORDS_8(3, 1, 7, 0, 0, 0, 0, 0), WORDS_8(1, 8, 4, 0, 2, 0, 0, 0), 0, 1,
+          "another batch in mid-pass");
+    step_to(case3_open(), BATCH(ADD(5, 1), REMOVE(5, 1, 9), ADD(7, 4)), (struct answer){0, 3, 0, 1},
+            configured(case3_open(), next), group, "records up to the boundary do nothing");
+
+    uint32_t repeats[GI_BATCH_RECORDS_MAX * GI_RECORD_WORDS];
+    for (size_t i = 0; i < GI_BATCH_RECORDS_MAX; i++)
+        memcpy(repeats + i * GI_RECORD_WORDS, (const uint32_t[]){ADD(7, 4)}, GI_RECORD_WORDS * sizeof(uint32_t));
+    lands(fresh, repeats, sizeof repeats / sizeof *repeats, 0, WORDS_8(7, 1, 4, 0, 0, 0, 0, 0), one, 0, 1,
+          "4,096 repeats");
+}
+
+static void circle(void) {
+    struct card card = lands(wrapped(), NO_RECORDS, 2, WORDS_8(2, 1, 5, 3, 1, 1, 0, 0), WORDS_8(1, 8, 4, 0, 1, 2, 3, 1),
+                             1, 0, "around the circle");
+    lands(card, NO_RECORDS, 3, WORDS_8(4, 1, 9, 0, 0, 0, 0, 0), WORDS_8(1, 8, 4, 1, 3, 0, 0, 0), 1, 1,
+          "around the circle, the last block");
+
+    card = WITH(CARD(1, 8, 4, 3, 3, 0, 0, 0), 3, 1, 1, 1, 0, 0, 0, 0, 0);
+    card = WITH(WITH(card, 0, 2, 1, 1, 0, 0, 0, 0, 0), 1, 3, 1, 1, 0, 0, 0, 0, 0);
+    card = lands(card, NO_RECORDS, 2, WORDS_8(1, 1, 1, 2, 1, 1, 0, 0), WORDS_8(1, 8, 4, 1, 1, 1, 2, 1), 2, 0,
+                 "two places freed at once");
+    lands(card, NO_RECORDS, 3, WORDS_8(3, 1, 1, 0, 0, 0, 0, 0), WORDS_8(1, 8, 4, 2, 2, 0, 0, 0), 1, 1,
+          "two places freed at once, the last block");
+}
+
+/* 4,096 additions on the largest card: 13 blocks of up to 341 terms. */
+static void largest(void) {
+    const char *group = "step on the largest card";
+    enum { TERMS = 341, BLOCKS = 13, BLOCKS_AT = GI_CONFIG_WORDS + 2 * 1024 };
+    static uint32_t batch[GI_BATCH_RECORDS_MAX * GI_RECORD_WORDS];
+    for (uint32_t i = 0; i < GI_BATCH_RECORDS_MAX; i++)
+        memcpy(batch + i * GI_RECORD_WORDS, (const uint32_t[]){ADD(i + 1, 9)}, GI_RECORD_WORDS * sizeof(uint32_t));
+    uint32_t *card = calloc(GI_CARD_WORDS_MAX, sizeof *card);
+    check(card != NULL, group, "memory for the card");
+    if (card == NULL)
+        return;
+    gi_format(card, GI_CARD_WORDS_MAX, 1024, 1024);
+    bool as_due = true;
+    for (uint32_t i = 0; i < 3 * BLOCKS; i++) {
+        struct answer got;
+        got.number = gi_step(card, GI_CARD_WORDS_MAX, batch, sizeof batch / sizeof *batch, &got.write, &got.freed,
+                             &got.finished);
+        as_due = as_due && got.number == 0 && got.write == i % 3 + 1 && got.freed == 0 &&
+                 got.finished == (i == 3 * BLOCKS - 1);
+    }
+    check(as_due, group, "39 steps, the last one finishes");
+    check(memcmp(card, WORDS_8(1, 1024, 1024, 0, BLOCKS, 0, 0, 0), GI_CONFIG_WORDS * sizeof(uint32_t)) == 0, group,
+          "the configuration in the end");
+    bool there = true;
+    for (uint32_t i = 0; i < GI_BATCH_RECORDS_MAX; i++) {
+        const uint32_t *entry = card + BLOCKS_AT + (size_t)(i / TERMS) * 1024 + i % TERMS * 3;
+        there = there && entry[0] == i + 1 && entry[1] == 1 && entry[2] == 9;
+    }
+    check(there, group, "every addition is there");
+    check_number(gi_judge(card, GI_CARD_WORDS_MAX), GI_DONE, group, "sound");
+    free(card);
+}
+
+/* ---- refusals */
+
+static void wrong_records(void) {
+    const char *group = "number 6";
+    static const uint32_t good[] = {ADD(5, 3), ADD(6, 1), ADD(7, 1)};
+    for (size_t length = 1; length < sizeof good / sizeof *good; length++)
+        if (length % GI_RECORD_WORDS != 0)
+            step_refused(case1(), good, length, 6, group, "a length that is no records");
+    static const uint32_t kinds[] = {0, 3, 4, 256, 65537, UINT32_MAX};
+    for (size_t i = 0; i < sizeof kinds / sizeof *kinds; i++)
+        step_refused(case1(), BATCH(ADD(5, 3), kinds[i], 6, 1, 1), 6, group, "a kind that is none");
+    step_refused(case1(), BATCH(ADD(0, 3)), 6, group, "an addition with term 0");
+    step_refused(case1(), BATCH(ADD(5, 0)), 6, group, "an addition of position 0");
+    step_refused(case1(), BATCH(REMOVE(0, 1, 3)), 6, group, "a removal with term 0");
+    step_refused(case1(), BATCH(REMOVE(5, 0, 3)), 6, group, "a removal from 0");
+    step_refused(case1(), BATCH(REMOVE(5, 0, 0)), 6, group, "a removal from 0 to 0");
+    step_refused(case1(), BATCH(REMOVE(5, 3, 0)), 6, group, "a removal to 0");
+    step_refused(case1(), BATCH(REMOVE(5, 3, 2)), 6, group, "a removal with from above to");
+    step_refused(case1(), BATCH(GI_RECORD_ADD, 5, 3, 2), 6, group, "an addition with from above to");
+    step_refused(case1(), BATCH(GI_RECORD_ADD, 5, 3, 4), 6, group, "an addition with from below to");
+    step_refused(case1(), BATCH(ADD(5, 3), ADD(6, 3), REMOVE(7, 3, 2)), 6, group, "only the last record is wrong");
+    step_refused(case1(), BATCH(ADD(6, 3), ADD(5, 3), ADD(7, 0)), 6, group, "6 before 7");
+
+    static uint32_t many[(GI_BATCH_RECORDS_MAX + 1) * GI_RECORD_WORDS];
+    for (uint32_t i = 0; i <= GI_BATCH_RECORDS_MAX; i++)
+        memcpy(many + i * GI_RECORD_WORDS, (const uint32_t[]){ADD(8, i + 1)}, GI_RECORD_WORDS * sizeof(uint32_t));
+    step_refused(case1(), many, sizeof many / sizeof *many, 6, group, "4,097 records");
+    step_refused(case1(), many, sizeof many / sizeof *many - 3, 6, group, "4,096 records and a word");
+}
+
+static void wrong_order(void) {
+    const char *group = "number 7";
+    step_refused(case1(), BATCH(ADD(6, 1), ADD(5, 1)), 7, group, "terms fall");
+    step_refused(case1(), BATCH(ADD(5, 3), ADD(5, 1)), 7, group, "positions fall");
+    step_refused(case1(), BATCH(REMOVE(5, 3, 9), ADD(5, 1)), 7, group, "an addition below its removal");
+    step_refused(case1(), BATCH(ADD(5, 3), REMOVE(5, 1, 9)), 7, group, "a removal that starts below");
+    step_refused(case1(), BATCH(ADD(5, 1), ADD(6, 1), ADD(7, 9), ADD(7, 8)), 7, group, "only the last one falls");
+    step_refused(case1(), BATCH(ADD(UINT32_MAX, 1), ADD(1, 1)), 7, group, "from the highest term to the lowest");
+}
+
+/* A card with one place free, each block full of one term. */
+static struct card full(void) {
+    struct card card = WITH(CARD(1, 8, 4, 2, 3, 0, 0, 0), 2, 1, 6, 10, 20, 30, 40, 50, 60);
+    return WITH(WITH(card, 3, 2, 6, 1, 2, 3, 4, 5, 6), 0, 3, 6, 1, 2, 3, 4, 5, 6);
+}
+
+static void full_cards(void) {
+    const char *group = "number 8";
+    step_refused(full(), BATCH(ADD(1, 15)), 8, group, "the due block frees no place");
+    step_refused(full(), BATCH(ADD(1, 1), REMOVE(2, 1, 9), REMOVE(3, 1, 9)), 8, group, "whatever comes after it");
+    step_refused(full(), BATCH(REMOVE(1, 60, 60)), 8, group, "an old block whose last pair is removed");
+    struct card card = WITH(CARD(1, 8, 4, 1, 0, 3, 3, 1), 1, 1, 1, 1, 0, 0, 0, 0, 0);
+    card = WITH(WITH(card, 2, 2, 1, 1, 0, 0, 0, 0, 0), 3, 3, 1, 1, 0, 0, 0, 0, 0);
+    step_refused(card, BATCH(ADD(4, 1)), 8, group, "where the pass would finish");
+    step_to(card, BATCH(ADD(2, 9)), (struct answer){0, 3, 0, 1}, configured(card, WORDS_8(1, 8, 4, 1, 3, 0, 0, 0)),
+            group, "no due block on a full card");
+
+    lands(full(), NO_RECORDS, 1, WORDS_8(1, 6, 10, 20, 30, 40, 50, 60), WORDS_8(1, 8, 4, 3, 2, 1, 1, 60), 1, 0,
+          "a full card with no records");
+    lands(full(), BATCH(REMOVE(1, 20, 60), REMOVE(2, 1, 9), REMOVE(3, 1, 6)), 1, WORDS_8(1, 1, 10, 0, 0, 0, 0, 0),
+          WORDS_8(1, 8, 4, 1, 1, 0, 0, 0), 3, 1, "a full card, all freed at the end");
+}
+
+static void wrong_cards(void) {
+    const char *group = "the card before the batch";
+    struct card card = case1();
+    for (size_t length = 0; length < WORDS; length += 5)
+        step_on(card.words, length, BATCH(0, 0, 0), (struct answer){1, 0, 0, 0}, card.words, group, "number 1");
+    step_refused(changed(card, GI_CONFIG_FORMAT, 2), BATCH(0, 0, 0), 2, group, "number 2");
+    step_refused(changed(card, GI_CONFIG_PLACES, 1), BATCH(0, 0, 0), 3, group, "number 3");
+    step_refused(changed(card, GI_CONFIG_OLD_LENGTH, 4), BATCH(ADD(7, 1), ADD(5, 1)), 3, group, "number 3");
+    step_refused(changed(card, map_word(0, 1), 3), BATCH(0, 0, 0), 4, group, "number 4");
+    step_refused(changed(card, map_word(0, 1), 3), BATCH_1, 4, group, "number 4, a good batch");
+}
+
+void test_step(void) {
+    case_1();
+    cases_2_3();
+    case_4();
+    cases_5_6();
+    batches();
+    circle();
+    largest();
+    wrong_records();
+    wrong_order();
+    full_cards();
+    wrong_cards();
+}

@@ -1,0 +1,559 @@
+// The exported lookup compared with the second program's, and whole lists of calls on the library
+// beside the history.
+
+use gameindex_tests::batches::{self, Mixture, Universe};
+use gameindex_tests::cards;
+use gameindex_tests::compare::{self, Question, Tally};
+use gameindex_tests::ffi::{self, Library};
+use gameindex_tests::lists::{self, Figures, List};
+use gameindex_tests::random::Random;
+use gameindex_tests::second::block;
+use gameindex_tests::second::{self, Configuration, LookupAnswer, Pair};
+
+const TOP: u32 = u32::MAX;
+
+/// P7 and P8 by the paper's own words, with the refusals beside them.
+#[test]
+fn lookup_on_the_papers_cases() {
+    let mut comparisons = 0;
+    for leftovers in [0, 5, TOP] {
+        let mut card = vec![leftovers; 48];
+        assert_eq!(ffi::format(&mut card, 8, 4), 0);
+        let batch = [1, 5, 2, 2, 1, 5, 9, 9, 1, 7, 4, 4];
+        let mut ask = |card: &[u32], question: Question, room, reply, positions: &[u32]| {
+            let (term, from, to) = question;
+            let mut answer = vec![77; room];
+            let (number, count, blocks) = reply;
+            let expected = LookupAnswer {
+                number,
+                count,
+                blocks,
+            };
+            let given = ffi::lookup(card, term, from, to, &mut answer);
+            assert_eq!(given, expected, "{question:?}, {room} words");
+            assert_eq!(answer[..positions.len()], *positions);
+            assert!(answer[positions.len()..].iter().all(|&word| word == 77));
+            comparisons += 1;
+        };
+        ask(&card, (5, 1, 9), 2, (0, 0, 0), &[]);
+        while !ffi::step(&mut card, &batch).finished {}
+        ask(&card, (5, 1, 9), 4, (0, 2, 1), &[2, 9]);
+        ask(&card, (5, 1, 9), 2, (0, 2, 1), &[2, 9]);
+        ask(&card, (5, 1, 9), 1, (10, 0, 0), &[]);
+        ask(&card, (5, 3, 8), 0, (0, 0, 1), &[]);
+        ask(&card, (4, 1, 9), 4, (0, 0, 0), &[]);
+        ask(&card, (6, 1, 9), 4, (0, 0, 1), &[]);
+        ask(&card, (5, 2, 2), 1, (0, 1, 1), &[2]);
+        ask(&card, (7, 1, TOP), 1, (0, 1, 1), &[4]);
+        ask(&card, (5, 1, 1), 1, (0, 0, 0), &[]);
+        for question in [
+            (0, 1, 9),
+            (5, 0, 9),
+            (5, 9, 2),
+            (5, 0, 0),
+            (0, 0, 0),
+            (5, 1, 0),
+        ] {
+            ask(&card, question, 0, (9, 0, 0), &[]);
+            ask(&card, question, 4, (9, 0, 0), &[]);
+            let mut unsound = card.clone();
+            unsound[0] = 2;
+            ask(&unsound, question, 0, (2, 0, 0), &[]);
+            ask(&card[..47], question, 4, (1, 0, 0), &[]);
+        }
+    }
+    println!("lookup_on_the_papers_cases: {comparisons} comparisons");
+}
+
+/// How the answers were spread.
+#[derive(Debug, Default)]
+struct Seen {
+    questions: u64,
+    in_mid_pass: u64,
+    from_both_segments: u64,
+    old_pairs_hidden: u64,
+    several_blocks: u64,
+    none_found: u64,
+    two_above_the_holders: u64,
+    most_blocks: u32,
+}
+
+impl Seen {
+    fn note(&mut self, card: &[u32], (term, from, to): Question, reply: &LookupAnswer) {
+        if reply.number != 0 {
+            return;
+        }
+        self.questions += 1;
+        self.none_found += u64::from(reply.count == 0);
+        self.most_blocks = self.most_blocks.max(reply.blocks);
+        let configuration = Configuration::read(card);
+        let in_range = |place: usize, live: bool| {
+            second::layout::block_pairs(&configuration, card, place)
+                .into_iter()
+                .filter(|&pair| pair.0 == term && from <= pair.1 && pair.1 <= to)
+                .any(|pair| configuration.is_above_boundary(pair) == live)
+        };
+        let old = configuration.old_places();
+        let from_old = old.iter().any(|&place| in_range(place, true));
+        let hidden = old.iter().any(|&place| in_range(place, false));
+        let mut new = configuration.new_places().into_iter();
+        let from_new = new.any(|place| in_range(place, true) || in_range(place, false));
+        let holders = lists::holders(card, term, from, to);
+        self.in_mid_pass += u64::from(configuration.new_length > 0);
+        self.from_both_segments += u64::from(from_old && from_new);
+        self.old_pairs_hidden += u64::from(hidden);
+        self.several_blocks += u64::from(holders > 1);
+        self.two_above_the_holders += u64::from(reply.blocks == holders + 2);
+        assert!(holders <= reply.blocks && reply.blocks <= holders + 2);
+    }
+
+    fn expect(&self, least: u64) {
+        for count in [
+            self.in_mid_pass,
+            self.from_both_segments,
+            self.old_pairs_hidden,
+            self.several_blocks,
+            self.none_found,
+            self.two_above_the_holders,
+        ] {
+            assert!(count >= least, "too few: {self:?}");
+        }
+    }
+}
+
+/// Every question over these terms and positions.
+fn every_question(terms: &[u32], positions: &[u32]) -> Vec<Question> {
+    let mut questions = Vec::new();
+    for &term in terms {
+        for &from in positions {
+            for &to in positions {
+                questions.push((term, from, to));
+            }
+        }
+    }
+    questions
+}
+
+/// Every question on cards over a small universe, at every moment of their passes.
+#[test]
+fn lookup_of_every_question_on_small_cards() {
+    let mut random = Random::new(41);
+    let mut tally = Tally::new();
+    let mut seen = Seen::default();
+    let mut cards_asked = 0;
+    let worlds = [
+        (
+            Universe {
+                terms: vec![1, 2, 3],
+                positions: (1..=7).collect(),
+            },
+            every_question(&[0, 1, 2, 3, 4, TOP], &[0, 1, 2, 3, 4, 5, 6, 7, 8, TOP]),
+        ),
+        (
+            Universe {
+                terms: vec![5],
+                positions: (1..=16).collect(),
+            },
+            every_question(
+                &[0, 4, 5, 6],
+                &[0, 1, 2, 3, 5, 6, 7, 8, 9, 11, 12, 13, 14, 16, 17, TOP],
+            ),
+        ),
+        (
+            Universe {
+                terms: vec![1, TOP - 1, TOP],
+                positions: vec![1, 2, TOP - 3, TOP - 2, TOP - 1, TOP],
+            },
+            every_question(
+                &[0, 1, 2, TOP - 2, TOP - 1, TOP],
+                &[0, 1, 2, 3, TOP - 4, TOP - 3, TOP - 2, TOP - 1, TOP],
+            ),
+        ),
+    ];
+    for round in 0..36 {
+        let (universe, questions) = &worlds[round % worlds.len()];
+        let b = random.pick(&[8, 8, 8, 9, 10]);
+        let n = random.within(3, 6);
+        let mut card = cards::fresh(&mut random, b, n);
+        for _ in 0..3 {
+            let mixture = random.pick(&[Mixture::Additions, Mixture::Both]);
+            let batch = batches::good(&mut random, universe, mixture, 20);
+            for _ in 0..12 {
+                let answer = second::step(&mut card, &batch);
+                // Only write 3 changes what is found, but free places may hold anything.
+                if answer.number == 0 && (answer.write == 3 || random.chance(1, 8)) {
+                    cards_asked += 1;
+                    for &question in questions {
+                        let reply = compare::lookups(
+                            &mut tally,
+                            &mut random,
+                            &card,
+                            question,
+                            &String::new,
+                        );
+                        seen.note(&card, question, &reply);
+                    }
+                }
+                if answer.number != 0 || answer.finished {
+                    break;
+                }
+            }
+        }
+    }
+    tally.report("lookup_of_every_question_on_small_cards");
+    println!("lookup_of_every_question_on_small_cards: {cards_asked} cards, {seen:?}");
+    tally.expect(&[0, 9, 10], 10_000);
+    seen.expect(50);
+}
+
+/// Blocks laid out by hand: one term or three over many blocks in both segments, gaps between them,
+/// old blocks from below the boundary to above it; every question.
+#[test]
+fn lookup_across_many_blocks() {
+    let mut random = Random::new(42);
+    let mut tally = Tally::new();
+    let mut seen = Seen::default();
+    for round in 0..36 {
+        let n = random.within(4, 12);
+        let live = n as usize - 1 - random.below(2);
+        let new_count = random.below(live + 1);
+        let terms: u32 = if round % 2 == 0 { 1 } else { 3 };
+        let most = 45 / terms;
+        // All pairs in order; each block takes the next few, now and then leaving some out.
+        let all: Vec<Pair> = (1..=terms)
+            .flat_map(|term| (1..=most).map(move |position| (term * 2, position)))
+            .collect();
+        let fill = |random: &mut Random, mut at: usize, count: usize| {
+            let mut blocks: Vec<Vec<Pair>> = Vec::new();
+            while blocks.len() < count && at < all.len() {
+                let wanted = 1 + random.below(4);
+                let pairs = all[at..].iter().copied().take(wanted);
+                let pairs = block::longest_beginning(pairs, 8);
+                at += pairs.len() + random.below(2);
+                blocks.push(pairs);
+            }
+            blocks
+        };
+        let new = fill(&mut random, 0, new_count);
+        let boundary = new.last().map(|block| block[block.len() - 1]);
+        let above = all
+            .iter()
+            .position(|&pair| Some(pair) > boundary)
+            .unwrap_or(all.len());
+        // The first old block reaches above the boundary and may begin below it.
+        let back = random.below(4).min(above);
+        let mut old = fill(&mut random, above - back, live - new.len());
+        while old
+            .first()
+            .is_some_and(|first| first.last().copied() <= boundary)
+        {
+            old.remove(0);
+        }
+        let start = random.below(n as usize) as u32;
+        let memory = cards::memory(&mut random, 8, n);
+        let card = cards::laid_out(memory, 8, n, start, &old, &new);
+        assert_eq!(second::judge(&card), 0);
+        let terms: Vec<u32> = (1..=2 * terms + 1).collect();
+        let positions: Vec<u32> = (0..=most + 1).collect();
+        for question in every_question(&terms, &positions) {
+            // Of those that are refused a few will do.
+            if question.1 > question.2 && random.chance(7, 8) {
+                continue;
+            }
+            let reply = compare::lookups(&mut tally, &mut random, &card, question, &String::new);
+            seen.note(&card, question, &reply);
+        }
+    }
+    tally.report("lookup_across_many_blocks");
+    println!("lookup_across_many_blocks: {seen:?}");
+    tally.expect(&[0, 9, 10], 10_000);
+    seen.expect(500);
+}
+
+/// A question at a pair of the card or next to it, or at none.
+fn question_near(random: &mut Random, known: &[Pair]) -> Question {
+    let beside = |random: &mut Random, word: u32| match random.below(6) {
+        0 => word.saturating_add(1),
+        1 => word.saturating_sub(1),
+        2 => random.pick(&[0, 1, 2, TOP - 1, TOP]),
+        3 => random.word(),
+        _ => word,
+    };
+    let (mut term, one) = random.pick(known);
+    if random.chance(1, 5) {
+        term = beside(random, term);
+    }
+    let from = beside(random, one);
+    // The other end is often another pair of the term.
+    let same: Vec<u32> = known
+        .iter()
+        .filter(|pair| pair.0 == term)
+        .map(|p| p.1)
+        .collect();
+    let other = if same.is_empty() {
+        random.pick(known).1
+    } else {
+        random.pick(&same)
+    };
+    let to = beside(random, other);
+    if random.chance(1, 12) {
+        (term, from, to)
+    } else {
+        (term, from.min(to).max(1), from.max(to))
+    }
+}
+
+/// All pairs of a sound card's live blocks, live or not, and a pair that is in none.
+fn known_pairs(card: &[u32]) -> Vec<Pair> {
+    let mut known: Vec<Pair> = vec![(3, 3)];
+    known.extend(Configuration::read(card).boundary());
+    known.extend(cards::block_pairs(card).concat());
+    known
+}
+
+/// Random cards of all shapes, reached by steps or not, with questions at their pairs.
+#[test]
+fn lookup_on_cards_of_many_shapes() {
+    let mut random = Random::new(43);
+    let mut tally = Tally::new();
+    let mut seen = Seen::default();
+    for round in 0..1500 {
+        let (b, n) = match round % 4 {
+            0 => (8, random.within(2, 6)),
+            1 => (random.within(8, 16), random.within(2, 12)),
+            2 => (random.within(8, 40), random.within(2, 16)),
+            _ => (random.pick(&[8, 9, 11, 100]), random.pick(&[2, 3, 16])),
+        };
+        let card = if round % 3 == 0 {
+            cards::stepped(&mut random, b, n)
+        } else {
+            cards::loose(&mut random, b, n)
+        };
+        let known = known_pairs(&card);
+        for _ in 0..24 {
+            let question = question_near(&mut random, &known);
+            let about = || format!("B {b}, N {n}");
+            let reply = compare::lookups(&mut tally, &mut random, &card, question, &about);
+            seen.note(&card, question, &reply);
+        }
+    }
+    tally.report("lookup_on_cards_of_many_shapes");
+    println!("lookup_on_cards_of_many_shapes: {seen:?}");
+    tally.expect(&[0, 10], 10_000);
+    tally.expect(&[9], 1_000);
+    seen.expect(100);
+}
+
+/// Cards damaged word by word: 1 to 4 before 9 and 10, in that order; sound ones answer.
+#[test]
+fn lookup_on_damaged_cards() {
+    let mut random = Random::new(44);
+    let mut tally = Tally::new();
+    for round in 0..260 {
+        let b = random.pick(&[8, 8, 9, 10]);
+        let n = random.within(2, 5);
+        let mut card = if round % 2 == 0 {
+            cards::stepped(&mut random, b, n)
+        } else {
+            cards::loose(&mut random, b, n)
+        };
+        let known = known_pairs(&card);
+        for word in 0..card.len() {
+            let kept = card[word];
+            let neighbour = card[(word + 1) % card.len()];
+            let values = [
+                0,
+                1,
+                kept.wrapping_add(1),
+                kept.wrapping_sub(1),
+                random.pick(&[TOP, n, 2, neighbour]),
+            ];
+            for value in values {
+                card[word] = value;
+                let question = match random.below(3) {
+                    0 => random.pick(&[(0, 1, 1), (1, 0, 1), (1, 2, 1), (0, 0, 0), (TOP, 0, TOP)]),
+                    _ => question_near(&mut random, &known),
+                };
+                let room = random.pick(&[0, 0, 1, 2, 40]);
+                let answer = random.words(room);
+                let about = || format!("word {word} was {kept}, now {value}");
+                compare::lookup(&mut tally, &card, question, &answer, &about);
+            }
+            card[word] = kept;
+        }
+        if round % 8 == 0 {
+            let mut longer = card.clone();
+            longer.extend_from_slice(&card);
+            for length in 0..=longer.len() {
+                let question = question_near(&mut random, &known);
+                let part = &longer[..length];
+                let answer = random.words(length % 9);
+                compare::lookup(&mut tally, part, question, &answer, &String::new);
+            }
+        }
+    }
+    tally.report("lookup_on_damaged_cards");
+    tally.expect(&[0, 4, 9], 5_000);
+    tally.expect(&[1, 2, 3, 10], 500);
+}
+
+/// Large cards with old and new segments anywhere in the circle.
+#[test]
+fn lookup_on_large_cards() {
+    let mut random = Random::new(45);
+    let mut tally = Tally::new();
+    let mut seen = Seen::default();
+    for (b, n, questions) in [
+        (8, 1024, 60),
+        (9, 1023, 60),
+        (1024, 2, 60),
+        (1023, 3, 60),
+        (1024, 8, 60),
+        (64, 64, 120),
+        (300, 20, 120),
+        (16, 500, 60),
+        (1024, 1024, 6),
+    ] {
+        for one_term in [false, true] {
+            let live = n as usize - 1;
+            let new_count = random.below(live + 1);
+            let mut cursor = (0, 0);
+            let (new, old) = if one_term {
+                let size = b - 2;
+                let block = |i: usize| -> Vec<Pair> {
+                    let first = 1 + i as u32 * (size - 1);
+                    (first..first + size - 1).map(|i| (9, i * 3)).collect()
+                };
+                let new: Vec<Vec<Pair>> = (0..new_count).map(block).collect();
+                let mut old: Vec<Vec<Pair>> = (new_count..live).map(block).collect();
+                if let (Some(last), Some(first)) = (new.last(), old.first_mut()) {
+                    // The boundary stands in the old segment as well.
+                    first.insert(0, last[last.len() - 1]);
+                }
+                (new, old)
+            } else {
+                let new = cards::segment(&mut random, b, new_count, &mut cursor, false);
+                let old = cards::segment(&mut random, b, live - new.len(), &mut cursor, false);
+                (new, old)
+            };
+            let start = random.below(n as usize) as u32;
+            let memory = random.words(cards::right_length(b, n));
+            let card = cards::laid_out(memory, b, n, start, &old, &new);
+            assert_eq!(second::judge(&card), 0);
+            let known = known_pairs(&card);
+            let few: Vec<Pair> = (0..200).map(|_| random.pick(&known)).collect();
+            for _ in 0..questions {
+                let question = question_near(&mut random, &few);
+                let about = || format!("B {b}, N {n}");
+                if n == 1024 && b == 1024 {
+                    let (term, from, to) = question;
+                    let found = second::PostingReader::open(&card, term, from, to).count();
+                    let room = (found + random.below(3)).saturating_sub(1);
+                    let words = random.words(room);
+                    compare::lookup(&mut tally, &card, question, &words, &about);
+                } else {
+                    let reply = compare::lookups(&mut tally, &mut random, &card, question, &about);
+                    seen.note(&card, question, &reply);
+                }
+            }
+            if one_term {
+                // All of the term's positions, over every block.
+                let all = known.len() + 1;
+                let mut whole: Vec<Question> = vec![(9, 1, TOP)];
+                if b < 1024 || n < 1024 {
+                    whole.extend([(9, 3, TOP), (9, 4, TOP - 1), (8, 1, TOP), (10, 1, TOP)]);
+                }
+                for question in whole {
+                    let words = random.words(all);
+                    let reply = compare::lookup(&mut tally, &card, question, &words, &String::new);
+                    assert_eq!(reply.number, 0);
+                }
+            }
+        }
+    }
+    tally.report("lookup_on_large_cards");
+    println!("lookup_on_large_cards: {seen:?}");
+    tally.expect(&[0, 10], 500);
+    assert!(seen.from_both_segments > 20 && seen.several_blocks > 100);
+}
+
+/// Free places that hold well-formed blocks of an earlier event, mapped and all: none is found.
+#[test]
+fn lookup_beside_leftovers() {
+    let mut random = Random::new(46);
+    let mut tally = Tally::new();
+    let mut leaks_possible = 0u64;
+    for _ in 0..1200 {
+        let b = random.pick(&[8, 9, 12]);
+        let n = random.within(2, 7);
+        let mut card = cards::stepped(&mut random, b, n);
+        let configuration = Configuration::read(&card);
+        let mut known = known_pairs(&card);
+        for place in configuration.free_places() {
+            let mut pairs: Vec<Pair> = (0..4)
+                .map(|_| {
+                    let (term, position) = random.pick(&known);
+                    (term, position.saturating_add(random.below(3) as u32))
+                })
+                .collect();
+            pairs.sort_unstable();
+            pairs.dedup();
+            let pairs = block::longest_beginning(pairs.into_iter(), b as usize);
+            cards::put_block(&mut card, &configuration, place, &pairs);
+            known.extend(pairs);
+        }
+        let live = second::live_pairs(&card);
+        for _ in 0..20 {
+            let question = question_near(&mut random, &known);
+            let (term, from, to) = question;
+            let inside = |pair: &&Pair| pair.0 == term && from <= pair.1 && pair.1 <= to;
+            let mut wanted = known.iter().filter(inside);
+            leaks_possible += u64::from(wanted.any(|pair| !live.contains(pair)));
+            compare::lookups(&mut tally, &mut random, &card, question, &String::new);
+        }
+    }
+    tally.report("lookup_beside_leftovers");
+    println!("lookup_beside_leftovers: {leaks_possible} questions over pairs that are not live");
+    tally.expect(&[0, 10], 5_000);
+    assert!(leaks_possible > 2_000);
+}
+
+/// Says which list failed.
+struct Named(u64);
+
+impl Drop for Named {
+    fn drop(&mut self) {
+        if std::thread::panicking() {
+            eprintln!("the list of seed {}", self.0);
+        }
+    }
+}
+
+/// Demand 3's lists on the library beside the history: steps, lookups, cuts, restarts, refused
+/// calls, all checked after every call.
+#[test]
+fn lists_on_the_library_against_the_history() {
+    let mut figures = Figures::default();
+    for seed in 0..500 {
+        let _named = Named(seed);
+        let mut random = Random::new(2_000_000 + seed);
+        let (b, n) = if seed % 10 == 0 {
+            (random.within(8, 64), random.within(2, 24))
+        } else {
+            let b = random.pick(&[8, 8, 8, 9, 10, 11, 13, 16, 24]);
+            (b, random.pick(&[2, 3, 3, 4, 4, 5, 6, 7, 9, 12]))
+        };
+        let mut list = List::start(&Library, &mut random, b, n);
+        for _ in 0..200 {
+            list.call(&mut random, &mut figures);
+        }
+    }
+    println!(
+        "lists_on_the_library_against_the_history: {} comparisons, {figures:?}",
+        figures.calls
+    );
+    assert!(figures.writes[1..].iter().all(|&count| count > 1000));
+    assert!(figures.cuts[1..].iter().all(|&count| count > 1000));
+    assert!(figures.finished > 1000 && figures.stopped_by_8 > 1000 && figures.landed > 500);
+    assert!(figures.wrapped > 1000 && figures.postings > 1000 && figures.restarts > 1000);
+}
