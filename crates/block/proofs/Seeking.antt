@@ -3,14 +3,14 @@ use Prim.Native.Nat.{ℕ, zero, suc, _+_, _-_, _≤_, _<_, zero-le}
 use native.Mathlib.Nat.{add-zero}
 use native.Mathlib.Omega.{arith}
 use mathlib.Core.Path.{_≡_, refl, sym, ap, _∙_}
-use mathlib.Core.Bool.{Bool, true, false, cond, _&&_, _||_, not, and-false, true≢false}
+use mathlib.Core.Bool.{Bool, true, false, cond, _&&_, not, and-false}
 use mathlib.Core.List.{List, [], _∷_, _++_, map, append-nil}
 use borrow.Author.Tests.{ltb-true, ltb-false, leb-true, leb-false, lt-ltb, le-ltb, lt-leb, le-leb}
-use lib.ListN.{length, take, drop, getD, length-drop, length-take, length-map}
-use lib.Seq.{getD-drop, getD-take, drop-drop, take-take, take-all}
-use lib.Dec.{ltb, leb, eqb}
+use lib.ListN.{length, take, drop, getD, length-drop, length-take}
+use lib.Seq.{getD-drop, drop-drop, take-take}
+use lib.Dec.{ltb, leb}
 use Rattle.pair.specs.Rank.{rank, position, Words}
-use Rattle.pair.specs.Rising.{Each, keep, atMost, risingFrom}
+use Rattle.pair.specs.Rising.{keep, atMost, risingFrom}
 use Rattle.pair.proofs.Each.{Each-imply}
 use Rattle.pair.proofs.Keep.{keep-append, keep-none}
 use Rattle.pair.proofs.Order.{position-rank}
@@ -22,7 +22,7 @@ use Rattle.pair.proofs.Tests.{and-left, and-right}
 use Rattle.block.specs.declared.wanted.Part.{Part}
 use Rattle.block.specs.Block.{zeros, pairsFrom, pairs, formedFrom, formed}
 use Rattle.block.specs.Scan.{readsOn}
-use Rattle.block.specs.Wanted.{isWanted, partOf, wordsBefore, UpTo, EntryPart, BlockPart}
+use Rattle.block.specs.Wanted.{isWanted, wordsBefore, UpTo, EntryPart, BlockPart}
 use Rattle.block.proofs.Walk.{formed-between, pairs-stops, reads-on}
 use Rattle.block.proofs.Reading.{formedFrom-rising}
 use Rattle.block.proofs.Scanning.{positionsAt}

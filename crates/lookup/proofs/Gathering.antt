@@ -1,5 +1,5 @@
 -- The wanted positions ahead of a walk: counted, and moved to answer words.
-use Prim.Native.Nat.{ℕ, zero, suc, _+_, _-_, _≤_, _<_, zero-le}
+use Prim.Native.Nat.{ℕ, suc, _+_, _-_, _≤_, _<_, zero-le}
 use native.Mathlib.Nat.{add-zero}
 use native.Mathlib.Numerals.{add-one}
 use native.Mathlib.Omega.{arith}
@@ -9,7 +9,7 @@ use lib.ListN.{length, take, drop, getD, set, length-append, length-take, length
 use lib.Seq.{sets, take-suc, getD-drop, length-sets}
 use Rattle.lookup.specs.declared.walk.Walk.{Walk}
 use Rattle.lookup.specs.declared.walk.WalkRun.{WalkRun}
-use Rattle.lookup.specs.Walk.{ahead, blocksOf, ReadyWalk, Next}
+use Rattle.lookup.specs.Walk.{ahead, ReadyWalk, Next}
 
 length-part : (c : List ℕ) (a n : ℕ) → a + n ≤ length c → length (take n (drop a c)) ≡ n
 length-part c a n h = rw (length-take, length-drop) (omega arith)

@@ -3,9 +3,9 @@ use Prim.Native.Nat.{ℕ, zero, suc, _+_, _-_, _%_, _≤_, _<_, zero-le}
 use native.Mathlib.Nat.{add-zero}
 use native.Mathlib.Omega.{arith}
 use mathlib.Core.Path.{_≡_, refl, sym, ap, _∙_}
-use mathlib.Core.Bool.{Bool, true, false, cond, _&&_, and-false, and-true}
+use mathlib.Core.Bool.{Bool, true, false, cond, _&&_, and-false}
 use mathlib.Core.List.{List, [], _∷_, map}
-use borrow.Author.Tests.{ltb-true, ltb-false, leb-true, leb-false, lt-ltb, le-ltb, le-leb, lt-leb, eqb-true, eqb-false}
+use borrow.Author.Tests.{ltb-true, leb-true, leb-false, lt-ltb, le-ltb, le-leb, eqb-true, eqb-false}
 use lib.ListN.{length, getD, length-map}
 use lib.Dec.{ltb, leb, eqb}
 use Rattle.pair.specs.Rank.{rank}
@@ -14,13 +14,12 @@ use Rattle.pair.proofs.Parts.{atMost-none}
 use Rattle.pair.proofs.Rising.{rising-cons, rising-weaker}
 use Rattle.pair.proofs.Search.{Halved, halved-start, halved-up, halved-down, halved-end}
 use Rattle.block.specs.Block.{pairs}
-use Rattle.block.specs.Wanted.{isWanted}
 use Rattle.card.specs.Layout.{placeCount, firstPair, place, around, pairsAt}
 use Rattle.card.specs.Sound.{blocksSound}
 use Rattle.card.proofs.Circle.{length-around}
 use Rattle.lookup.specs.Found.{mappedTo}
 use Rattle.lookup.specs.Segment.{Segment, LiveAfter}
-use Rattle.lookup.proofs.Span.{First, first}
+use Rattle.lookup.proofs.Span.{first}
 
 mapped-rising : (c is : List ℕ) (j : ℕ) → blocksSound c is ≡ true → risingFrom j (pairsAt c is) ≡ true → risingFrom j (map (firstPair c) is) ≡ true
 unfolding risingFrom

@@ -1,28 +1,27 @@
 -- The walk that a lookup makes: what is ahead of it is what is found, and its first run is the run view's.
-use Prim.Native.Nat.{ℕ, zero, suc, _+_, _*_, _-_, _%_, _≤_, _<_, zero-le}
+use Prim.Native.Nat.{ℕ, zero, suc, _+_, _*_, _-_, _≤_, _<_}
 use native.Mathlib.Omega.{arith}
 use mathlib.Core.Path.{_≡_, refl, sym, ap, _∙_}
-use mathlib.Core.Bool.{Bool, true, false, cond, _&&_, _||_, not, and-false, true≢false}
+use mathlib.Core.Bool.{Bool, true, false, _&&_, and-false}
 use mathlib.Core.List.{List, [], _∷_, _++_, map, map-append}
-use borrow.Author.Tests.{leb-true, lt-ltb, lt-leb, le-ltb, ltb-false, eqb-false, eq-eqb}
+use borrow.Author.Tests.{leb-true, lt-ltb, lt-leb, eq-eqb}
 use lib.ListN.{length, getD, length-append, length-map, length-take}
-use lib.Dec.{ltb, leb, eqb}
+use lib.Dec.{ltb, leb}
 use Rattle.pair.specs.Rank.{rank, position, Words}
 use Rattle.pair.specs.Rising.{keep, above, within}
 use Rattle.pair.proofs.Keep.{keep-append, keep-same, keep-keep, length-keep}
 use Rattle.block.specs.Block.{pairs}
 use Rattle.block.specs.Wanted.{isWanted, wordsBefore}
 use Rattle.block.proofs.Size.{block-size, length-size}
-use Rattle.card.specs.Layout.{blockSize, placeCount, oldStart, oldLength, newLength, boundary, entryWidth, placeAt, place, around, oldPlaces, newPlaces, pairsAt, live}
+use Rattle.card.specs.Layout.{blockSize, placeCount, oldStart, oldLength, newLength, boundary, entryWidth, placeAt, place, oldPlaces, newPlaces, pairsAt, live}
 use Rattle.card.proofs.Circle.{length-around}
 use Rattle.card.proofs.Facts.{Facts, facts}
 use Rattle.card.proofs.Live.{place-words}
-use Rattle.lookup.specs.declared.walk.Stretch.{Stretch}
 use Rattle.lookup.specs.declared.walk.Walk.{Walk}
 use Rattle.lookup.specs.Found.{found, span, blocksRead, questionNumber, runAt, run, runStartAt, runStart}
 use Rattle.lookup.specs.Segment.{Segment, spanned, LiveAfter, Opened}
 use Rattle.card.specs.Scan.{Shaped}
-use Rattle.lookup.specs.Walk.{postings, runOf, runStartOf, placesOf, aheadOf, firstRun, firstStart, orElse, orElseAt, ahead, nextRun, nextStart}
+use Rattle.lookup.specs.Walk.{postings, runOf, runStartOf, placesOf, orElse, orElseAt, ahead, nextRun, nextStart}
 use Rattle.lookup.proofs.Answers.{Asked, asked}
 use Rattle.lookup.proofs.Spanning.{Same, span-most, span-same, span-ready}
 

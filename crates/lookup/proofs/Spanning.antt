@@ -3,30 +3,30 @@ use Prim.Native.Nat.{ℕ, zero, suc, _+_, _-_, _%_, _≤_, _<_, zero-le}
 use native.Mathlib.Nat.{mod-lt}
 use native.Mathlib.Omega.{arith}
 use mathlib.Core.Path.{_≡_, refl, sym, ap, _∙_}
-use mathlib.Core.Bool.{Bool, true, false, cond, _&&_, true≢false}
-use mathlib.Core.List.{List, [], _∷_, _++_, map, append-assoc, append-nil, map-append}
+use mathlib.Core.Bool.{Bool, true, false, cond, _&&_}
+use mathlib.Core.List.{List, [], _∷_, _++_, map, append-nil}
 use borrow.Author.Tests.{leb-true, leb-false, le-leb, eqb-true}
 use lib.ListN.{length, take, drop, getD, take-append-drop, length-append, List·getD-append}
 use lib.Seq.{drop-drop}
-use lib.Dec.{ltb, leb, eqb}
+use lib.Dec.{leb, eqb}
 use Rattle.pair.specs.Rank.{rank, position}
-use Rattle.pair.specs.Rising.{Each, keep, above, atMost, within, risingFrom, last}
+use Rattle.pair.specs.Rising.{Each, keep, within, risingFrom, last}
 use Rattle.pair.proofs.Each.{Each-imply, Each-take, Each-drop}
-use Rattle.pair.proofs.Keep.{keep-append, keep-none, keep-same, keep-keep}
+use Rattle.pair.proofs.Keep.{keep-append, keep-none}
 use Rattle.pair.proofs.Parts.{atMost-all, Each-atMost}
 use Rattle.pair.proofs.Rising.{rising-cons, rising-head, rising-tail, rising-last}
 use Rattle.pair.proofs.Sets.{rising-Each}
 use Rattle.pair.proofs.Tests.{and-left, and-right}
 use Rattle.block.specs.Block.{pairs, formed}
-use Rattle.block.specs.Wanted.{isWanted, wordsBefore}
+use Rattle.block.specs.Wanted.{wordsBefore}
 use Rattle.block.proofs.Reading.{formed-some}
 use Rattle.card.specs.Layout.{entryWidth, placeCount, placeAt, firstPair, place, around, pairsAt}
 use Rattle.card.specs.Sound.{blocksSound}
 use Rattle.card.proofs.Circle.{around-drop, around-mod, length-around}
 use Rattle.card.proofs.Live.{pairsAt-append}
-use Rattle.lookup.specs.Found.{mappedTo, span, runAt, runStartAt}
+use Rattle.lookup.specs.Found.{mappedTo, span}
 use Rattle.lookup.specs.Segment.{Segment, spanned}
-use Rattle.lookup.specs.Walk.{runOf, runStartOf, placesOf, orElse, orElseAt, Ready}
+use Rattle.lookup.specs.Walk.{runOf, runStartOf, placesOf, Ready}
 use Rattle.lookup.proofs.Span.{First, first}
 use Rattle.lookup.proofs.Walking.{run-skip, start-skip}
 

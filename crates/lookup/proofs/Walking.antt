@@ -3,10 +3,10 @@ use Prim.Native.Nat.{ℕ, zero, suc, _+_, _*_, _-_, _%_, _≤_, _<_, zero-le}
 use native.Mathlib.Nat.{mul-le-mul-right, mod-eq-of-lt, mod-lt}
 use native.Mathlib.Omega.{arith}
 use mathlib.Core.Path.{_≡_, refl, sym, ap, _∙_}
-use mathlib.Core.Bool.{Bool, true, false, cond, _&&_, not, true≢false, false≢true}
-use mathlib.Core.List.{List, [], _∷_, _++_, map, append-assoc, append-nil}
-use borrow.Author.Tests.{ltb-false, leb-true, eqb-true, lt-ltb, le-ltb, le-leb, eq-eqb}
-use lib.ListN.{length, take, drop, getD, length-take, length-drop, length-map}
+use mathlib.Core.Bool.{Bool, true, false, cond, _&&_, true≢false, false≢true}
+use mathlib.Core.List.{List, [], _∷_, _++_, map, append-assoc}
+use borrow.Author.Tests.{leb-true, eqb-true, le-ltb, le-leb, eq-eqb}
+use lib.ListN.{length, take, drop, length-take, length-drop, length-map}
 use lib.Seq.{drop-drop}
 use lib.Dec.{ltb, leb, eqb}
 use Rattle.pair.specs.Rank.{position}
@@ -22,9 +22,8 @@ use Rattle.card.proofs.Circle.{around-mod}
 use Rattle.lookup.specs.declared.walk.Stretch.{Stretch}
 use Rattle.lookup.specs.declared.walk.Walk.{Walk}
 use Rattle.lookup.specs.declared.walk.StretchRun.{StretchRun}
-use Rattle.lookup.specs.declared.walk.WalkRun.{WalkRun}
 use Rattle.card.specs.Scan.{Shaped}
-use Rattle.lookup.specs.Walk.{isShaped, PlacePart, postings, runOf, runStartOf, placesOf, aheadOf, firstRun, firstStart, Ready, Sought, ahead, blocksOf, orElse, orElseAt, nextRun, nextStart, ReadyWalk, Next}
+use Rattle.lookup.specs.Walk.{isShaped, PlacePart, postings, runOf, runStartOf, aheadOf, firstRun, firstStart, Ready, Sought, orElse, orElseAt, ReadyWalk, Next}
 
 -- the shape of a card
 pub limits : (b n : ℕ) → ((leb b 1024 && leb 2 n) && leb n 1024) ≡ true → (b ≤ 1024) × (2 ≤ n) × (n ≤ 1024)

@@ -1,19 +1,21 @@
 // Looking up a term in a range of positions.
 ghost use mathlib.Core.Path.{_≡_};
 ghost use Prim.Native.Nat.{_+_, _*_};
+ghost use Rattle.pair.specs.Bounds.{lowest, highest};
 ghost use Rattle.lookup.specs.Found.{questionNumber, run, runStart};
-ghost use Rattle.lookup.specs.Answer.{Answered};
+ghost use Rattle.lookup.specs.Answer.{Answered, Flat};
 use crate::map::opened;
 use crate::taking::copy_ahead;
 use crate::taking::count_ahead;
 use crate::walk::next_run;
+use pair::Pair;
 
 pub mod map; // the blocks that are read, found by the map
 pub mod reading; // the posting reader's cursor, one posting after another
 pub mod taking; // the wanted positions of a walk counted, and moved to answer words
 pub mod walk; // the blocks that are read, one run of wanted positions after another
 
-// A term is looked up, a position is where the range starts: neither is 0.
+// The numbers of whoever looks up.
 const NO_QUESTION: u32 = 9;
 
 const TOO_FEW_WORDS: u32 = 10;
@@ -58,6 +60,45 @@ pub fn lookup(card: &[u32], term: u32, from: u32, to: u32, answer: &mut [u32]) -
     LookupAnswer::Found {
         count: count as u32,
         blocks: blocks as u32,
+    }
+}
+
+// The lookup of all positions of a term: from the lowest pair's to the highest pair's.
+pub fn lookup_all(card: &[u32], term: u32, answer: &mut [u32]) -> LookupAnswer
+    ensures { λ r. ⌜ Answered (now (card .entry)) term (lowest .position) (highest .position) (now (answer .entry)) r (now (answer .exit)) ⌝ }
+{
+    let low = Pair::LOWEST;
+    let high = Pair::HIGHEST;
+    lookup(card, term, low.position, high.position, answer)
+}
+
+// The lookup in flat numbers, as the C function has it: the reply is the number, 0 where it is not refused, and the counts are stored.
+pub fn lookup_flat(
+    card: &[u32],
+    term: u32,
+    from: u32,
+    to: u32,
+    answer: &mut [u32],
+    found: &mut u32,
+    blocks: &mut u32,
+) -> u32
+    ensures { λ r. ⌜ Flat (now (card .entry)) term from to (now (answer .entry)) r (now (found .exit)) (now (blocks .exit)) (now (answer .exit)) ⌝ }
+{
+    let reply = lookup(card, term, from, to, answer);
+    match reply {
+        LookupAnswer::Refused(number) => {
+            *found = 0;
+            *blocks = 0;
+            number
+        }
+        LookupAnswer::Found {
+            count,
+            blocks: read,
+        } => {
+            *found = count;
+            *blocks = read;
+            0
+        }
     }
 }
 

@@ -1,5 +1,4 @@
 -- `lookup::run_view` meets its contract: the part of the card is the first run of the walk.
-use native.Mathlib.Omega.{arith}
 use Rattle.lookup.proofs.Answering.{run-refused, run-found}
 use borrow.Author.Needs.{needs}
 use Rattle.lookup.proofs.run_view.Statement.{statement}

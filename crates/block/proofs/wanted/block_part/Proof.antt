@@ -1,10 +1,10 @@
 -- `block::wanted::block_part` meets its contract. The invariant of its loop, Seek: what is wanted of the block stands in the words from i on.
-use Prim.Native.Nat.{ℕ, _+_, _-_, _<_, _≤_}
+use Prim.Native.Nat.{ℕ, _+_, _-_, _<_}
 use native.Mathlib.Omega.{arith}
 use mathlib.Core.Path.{_≡_, sym, _∙_}
-use mathlib.Core.Bool.{true, false}
+use mathlib.Core.Bool.{true}
 use mathlib.Core.List.{List}
-use lib.ListN.{length, drop, getD}
+use lib.ListN.{length, drop}
 use Rattle.pair.specs.Rank.{Words}
 use Rattle.block.specs.Scan.{readsOn}
 use Rattle.block.proofs.Entries.{entry-room}

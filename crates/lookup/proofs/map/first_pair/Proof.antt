@@ -1,5 +1,4 @@
 -- `lookup::map::first_pair` meets its contract.
-use native.Mathlib.Omega.{arith}
 use Rattle.card.specs.Layout.{firstPair}
 use borrow.Author.Needs.{needs}
 use Rattle.lookup.proofs.map.first_pair.Statement.{statement}

@@ -1,6 +1,5 @@
 -- `lookup::map::live_after` meets its contract, case by case.
 use native.Mathlib.Omega.{arith}
-use borrow.Author.Tests.{not-true}
 use Rattle.lookup.proofs.Mapping.{live-beyond, live-bound, live-from}
 use borrow.Author.Needs.{needs}
 use Rattle.lookup.proofs.map.live_after.Statement.{statement}

@@ -1,5 +1,5 @@
 -- `lookup::map::mapped_to` meets its contract: a search by halving of a map that rises.
-use Prim.Native.Nat.{_-_, _<_}
+use Prim.Native.Nat.{_-_}
 use native.Mathlib.Nat.{mod-lt}
 use native.Mathlib.Omega.{arith}
 use Rattle.lookup.proofs.Mapping.{Searching, search-start, search-up, search-down, search-end}

@@ -4,7 +4,6 @@ use Rattle.pair.specs.Rank.{Words}
 use Rattle.card.proofs.Facts.{Facts}
 use Rattle.lookup.proofs.Answers.{asked}
 use Rattle.lookup.proofs.Opening.{question-facts, new-segment, old-segment, opened-walk}
-use borrow.Author.Needs.{needs}
 use Rattle.lookup.proofs.map.opened.Statement.{statement}
 use Rattle.lookup.proofs.map.opened.Tie as tie
 

@@ -1,5 +1,5 @@
 -- `lookup::walk::place_part` meets its contract: the part of a block is a part of the card.
-use Prim.Native.Nat.{ℕ, _+_, _≤_}
+use Prim.Native.Nat.{_+_, _≤_}
 use native.Mathlib.Omega.{arith}
 use lib.ListN.{length}
 use Rattle.card.specs.Layout.{blockSize, entryWidth, placeAt}

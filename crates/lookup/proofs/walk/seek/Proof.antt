@@ -1,8 +1,6 @@
 -- `lookup::walk::seek` meets its contract. The invariant of its loop, Seeking: the first run of the stretch is that of the blocks still to be read.
-use Prim.Native.Nat.{ℕ, _≤_}
 use native.Mathlib.Omega.{arith}
-use mathlib.Core.Path.{_≡_, sym, _∙_}
-use mathlib.Core.Bool.{true, false}
+use mathlib.Core.Path.{sym, _∙_}
 use borrow.Author.Tests.{not-true, not-false}
 use Rattle.card.specs.Scan.{Shaped}
 use Rattle.lookup.proofs.Walking.{Seeking, shaped-facts, seeking-start, seeking-end, seeking-unshaped, seeking-out, seeking-turn, seeking-hit}
