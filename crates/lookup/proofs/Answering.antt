@@ -14,7 +14,7 @@ use Rattle.lookup.specs.declared.walk.Walk.{Walk}
 use Rattle.lookup.specs.declared.walk.WalkRun.{WalkRun}
 use Rattle.lookup.specs.declared.LookupAnswer.{LookupAnswer}
 use Rattle.lookup.specs.declared.LookupAnswer.the-variants.{Refused, Found}
-use Rattle.lookup.specs.Answer.{numberOf, countOf, blocksReadOf, Answered, Flat}
+use Rattle.lookup.specs.Answer.{numberOf, countOf, blocksReadOf, Answered}
 use Rattle.lookup.specs.Found.{found, questionNumber, lookupNumber, run, runStart}
 use Rattle.lookup.specs.Segment.{Opened}
 use Rattle.lookup.specs.Walk.{ahead, blocksOf, Next}
@@ -73,19 +73,6 @@ module _ {c : List ℕ} {t a z : ℕ} {ans : List ℕ} where
       let k : lookupNumber c t a z ans ≡ 0 = number-none c t a z ans (sym e ∙ h) room in
       let l = lookup-found c t a z ans k in
       record { number = rw l; count = rw (l, f, o .found); blocks = rw l (o .blocks); words = rw (l, s, o .found) }
-
--- the answer in flat numbers
-pub flat-refused :
-    {c : List ℕ} {t a z : ℕ} {before after : List ℕ} {r : LookupAnswer} {n : ℕ} → Answered c t a z before r after → r ≡ Refused n →
-    Flat c t a z before n 0 0 after
-flat-refused x e =
-    record { number = ap numberOf (sym e) ∙ x .number; count = ap countOf (sym e) ∙ x .count; blocks = ap blocksReadOf (sym e) ∙ x .blocks; words = x .words }
-
-pub flat-found :
-    {c : List ℕ} {t a z : ℕ} {before after : List ℕ} {r : LookupAnswer} {k b : ℕ} → Answered c t a z before r after → r ≡ Found k b →
-    Flat c t a z before 0 k b after
-flat-found x e =
-    record { number = ap numberOf (sym e) ∙ x .number; count = ap countOf (sym e) ∙ x .count; blocks = ap blocksReadOf (sym e) ∙ x .blocks; words = x .words }
 
 -- the run view: its contents and where it starts
 pub run-refused :

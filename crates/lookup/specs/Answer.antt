@@ -24,10 +24,3 @@ pub record Answered (c : List ℕ) (t a z : ℕ) (before : List ℕ) (r : Lookup
   pub count : countOf r ≡ lookup c t a z before .count
   pub blocks : blocksReadOf r ≡ lookup c t a z before .blocks
   pub words : after ≡ lookup c t a z before .answer
-
--- the same in flat numbers
-pub record Flat (c : List ℕ) (t a z : ℕ) (before : List ℕ) (n k b : ℕ) (after : List ℕ) : Type 0 where
-  pub number : n ≡ lookup c t a z before .number
-  pub count : k ≡ lookup c t a z before .count
-  pub blocks : b ≡ lookup c t a z before .blocks
-  pub words : after ≡ lookup c t a z before .answer

@@ -3,7 +3,7 @@ ghost use mathlib.Core.Path.{_≡_};
 ghost use Prim.Native.Nat.{_+_, _*_};
 ghost use Rattle.pair.specs.Bounds.{lowest, highest};
 ghost use Rattle.lookup.specs.Found.{questionNumber, run, runStart};
-ghost use Rattle.lookup.specs.Answer.{Answered, Flat};
+ghost use Rattle.lookup.specs.Answer.{Answered};
 use crate::map::opened;
 use crate::taking::copy_ahead;
 use crate::taking::count_ahead;
@@ -70,36 +70,6 @@ pub fn lookup_all(card: &[u32], term: u32, answer: &mut [u32]) -> LookupAnswer
     let low = Pair::LOWEST;
     let high = Pair::HIGHEST;
     lookup(card, term, low.position, high.position, answer)
-}
-
-// The lookup in flat numbers, as the C function has it: the reply is the number, 0 where it is not refused, and the counts are stored.
-pub fn lookup_flat(
-    card: &[u32],
-    term: u32,
-    from: u32,
-    to: u32,
-    answer: &mut [u32],
-    found: &mut u32,
-    blocks: &mut u32,
-) -> u32
-    ensures { λ r. ⌜ Flat (now (card .entry)) term from to (now (answer .entry)) r (now (found .exit)) (now (blocks .exit)) (now (answer .exit)) ⌝ }
-{
-    let reply = lookup(card, term, from, to, answer);
-    match reply {
-        LookupAnswer::Refused(number) => {
-            *found = 0;
-            *blocks = 0;
-            number
-        }
-        LookupAnswer::Found {
-            count,
-            blocks: read,
-        } => {
-            *found = count;
-            *blocks = read;
-            0
-        }
-    }
 }
 
 // The wanted live positions of the first block that has any, new segment before old, as a part of the card; the empty part where there is none.

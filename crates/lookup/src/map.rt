@@ -5,10 +5,10 @@ ghost use Rattle.card.specs.Layout.{placeCount, firstPair, around};
 ghost use Rattle.lookup.specs.Found.{mappedTo, questionNumber};
 ghost use Rattle.card.specs.Scan.{Shaped};
 ghost use Rattle.lookup.specs.Segment.{Segment, spanned, LiveAfter, Opened};
-use card::CONFIGURATION_WORDS;
-use card::ENTRY_WIDTH;
 use crate::walk::Stretch;
 use crate::walk::Walk;
+use card::CONFIGURATION_WORDS;
+use card::ENTRY_WIDTH;
 use pair::Pair;
 
 // The rank of a place's map pair.

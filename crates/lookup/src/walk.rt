@@ -4,9 +4,9 @@ ghost use Prim.Native.Nat.{_<_};
 ghost use Rattle.card.specs.Layout.{placeCount};
 ghost use Rattle.card.specs.Scan.{Shaped};
 ghost use Rattle.lookup.specs.Walk.{isShaped, PlacePart, Sought, Next};
+use block::wanted::Part;
 use card::CONFIGURATION_WORDS;
 use card::ENTRY_WIDTH;
-use block::wanted::Part;
 
 // Blocks of one segment: so many places from one on, around the circle. Wanted of them are positions above after.
 pub struct Stretch {
