@@ -44,6 +44,8 @@ bench: target/bench_judge target/bench_step target/bench_lookup
 	target/bench_step
 	@echo
 	target/bench_lookup
+	@echo
+	cd tests && GAMEINDEX_LIB_DIR=$(CURDIR)/target/staticlib cargo run -q --release --offline --example step_speed
 
 fmt:
 	rt fmt
