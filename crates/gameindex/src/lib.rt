@@ -4,7 +4,9 @@ ghost use Rattle.card.specs.Layout.{formatNumber, formatted};
 ghost use Rattle.card.specs.Sound.{judged};
 ghost use Rattle.update.specs.Step.{step};
 ghost use Rattle.gameindex.specs.Flat.{flag, Stepped, LookedUp};
-ghost use Rattle.lookup.specs.Found.{lookup};
+ghost use Rattle.lookup.specs.Found.{lookup, read};
+ghost use Rattle.lookup.specs.Answer.{Viewed};
+ghost use Rattle.lookup.specs.Reading.{ReadOff};
 use lookup::LookupAnswer;
 
 // Formats a card; the reply is the number, 0 where it is done.
@@ -80,4 +82,39 @@ pub extern "C" fn gi_lookup(
             0
         }
     }
+}
+
+// Finds the positions of the first block that has any; the reply is the number, 0 where it is done. Where in the card they start and how many they are go behind the last two references.
+#[no_mangle]
+pub extern "C" fn gi_run_view(
+    card: &[u32],
+    term: u32,
+    from: u32,
+    to: u32,
+    start: &mut usize,
+    found: &mut usize,
+) -> u32
+    ensures { λ r. ⌜ Viewed (now (card .entry)) term from to r (now (start .exit)) (now (found .exit)) ⌝ }
+{
+    let part = lookup::run_part(card, term, from, to);
+    *start = part.start;
+    *found = part.len;
+    part.number
+}
+
+// Reads the first positions of a question, as many as there are answer words; the reply is the number, 0 where it is done. The count of positions goes behind the last reference.
+#[no_mangle]
+pub extern "C" fn gi_read(
+    card: &[u32],
+    term: u32,
+    from: u32,
+    to: u32,
+    answer: &mut [u32],
+    found: &mut usize,
+) -> u32
+    ensures { λ r. ⌜ ReadOff r (now (found .exit)) (now (answer .exit)) (read (now (card .entry)) term from to (now (answer .entry))) ⌝ }
+{
+    let reading = lookup::reading::read(card, term, from, to, answer);
+    *found = reading.count;
+    reading.number
 }

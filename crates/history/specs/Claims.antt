@@ -13,7 +13,7 @@ use Rattle.card.specs.Sound.{judged}
 use Rattle.batch.specs.Batch.{Update, updates, anyUpdate, applied, batchNumber}
 use Rattle.update.specs.Step.{Step, remains, stepNumber, step}
 use Rattle.update.specs.Pass.{stepLimit, finishesWithin, refusedWithin}
-use Rattle.lookup.specs.Found.{questionNumber, blocksRead, holders, Lookup, lookup, posting, ended, yielded}
+use Rattle.lookup.specs.Found.{questionNumber, blocksRead, holders, Lookup, lookup, posting, ended, yielded, read}
 use Rattle.history.specs.History.{Event, stepped, cut, looked, restarted, formats, after, AllOfWords}
 
 -- a pass left uncut and unrefused, with its batch kept, finishes within the step limit
@@ -110,3 +110,9 @@ unfoldable pub ReaderYieldsLookup : Type 0
 ReaderYieldsLookup =
     (c : List ℕ) (t a z : ℕ) (answer : List ℕ) (n : ℕ) → lookup c t a z answer .number ≡ 0 →
     yielded c t a z n ≡ getD (map posting (take (lookup c t a z answer .count) (lookup c t a z answer .answer))) n ended
+
+-- a reading with words enough gives as many positions as the lookup and leaves the answer words as the lookup does
+unfoldable pub ReadingIsLookup : Type 0
+ReadingIsLookup =
+    (c : List ℕ) (t a z : ℕ) (answer : List ℕ) → lookup c t a z answer .number ≡ 0 →
+    (read c t a z answer .count ≡ lookup c t a z answer .count) × (read c t a z answer .answer ≡ lookup c t a z answer .answer)

@@ -1,5 +1,5 @@
 -- What a lookup and a run view answer, refused or not.
-use Prim.Native.Nat.{ℕ, _+_, _*_, _-_, _≤_, _<_}
+use Prim.Native.Nat.{ℕ, _+_, _*_, _-_, _≤_, _<_, zero-le}
 use native.Mathlib.Omega.{arith}
 use mathlib.Core.Path.{_≡_, refl, sym, ap, _∙_}
 use mathlib.Core.Bool.{true, false, _||_}
@@ -14,11 +14,12 @@ use Rattle.lookup.specs.declared.walk.Walk.{Walk}
 use Rattle.lookup.specs.declared.walk.WalkRun.{WalkRun}
 use Rattle.lookup.specs.declared.LookupAnswer.{LookupAnswer}
 use Rattle.lookup.specs.declared.LookupAnswer.the-variants.{Refused, Found}
-use Rattle.lookup.specs.Answer.{numberOf, countOf, blocksReadOf, Answered}
+use Rattle.lookup.specs.Answer.{numberOf, countOf, blocksReadOf, Answered, Viewed}
 use Rattle.lookup.specs.Found.{found, questionNumber, lookupNumber, run, runStart}
 use Rattle.lookup.specs.Segment.{Opened}
 use Rattle.lookup.specs.Walk.{ahead, blocksOf, Next}
 use Rattle.lookup.proofs.Answers.{lookup-found, lookup-refused}
+use Rattle.lookup.proofs.Gathering.{length-part}
 
 -- the question's number
 pub question-refused : (c : List ℕ) (t a z n : ℕ) → n ≡ judged c → (n ≡ 0 → ⊥) → n ≡ questionNumber c t a z
@@ -74,17 +75,29 @@ module _ {c : List ℕ} {t a z : ℕ} {ans : List ℕ} where
       let l = lookup-found c t a z ans k in
       record { number = rw l; count = rw (l, f, o .found); blocks = rw l (o .blocks); words = rw (l, s, o .found) }
 
--- the run view: its contents and where it starts
-pub run-refused :
-    (c : List ℕ) (t a z n : ℕ) (p : ℕ × ℕ) → n ≡ questionNumber c t a z → (n ≡ 0 → ⊥) →
-    (_≡_ {A = List ℕ} [] (run c t a z)) × (_≡_ {A = ℕ × ℕ} (p .0, 0 * 4 + p .1) (p .0, runStart c t a z * 4 + p .1))
+-- the run view's part of the card, refused or not
+pub viewed-refused : {c : List ℕ} {t a z n : ℕ} → n ≡ questionNumber c t a z → (n ≡ 0 → ⊥) → Viewed c t a z n 0 0
 unfolding run runStart
-run-refused c t a z n p e h = let f = ne-eqb (questionNumber c t a z) 0 (λ q. h (e ∙ q)) in (rw f, rw f)
+viewed-refused {c} {t} {a} {z} e h =
+    let f = ne-eqb (questionNumber c t a z) 0 (λ q. h (e ∙ q)) in
+    record { ofNumber = e; ofStart = rw f; ofLength = rw f; inside = zero-le; part = rw f }
 
-pub run-found :
-    {c : List ℕ} {t a z : ℕ} {w : Walk} {r : WalkRun} (p : ℕ × ℕ) → Opened c t a z w → Next c w r →
-    (take (r .start + r .len - r .start) (drop (r .start) c) ≡ run c t a z)
-    × (_≡_ {A = ℕ × ℕ} (p .0, r .start * 4 + p .1) (p .0, runStart c t a z * 4 + p .1))
-run-found {c} {t} {a} {z} {w} {r} p o x =
-    let n : r .start + r .len - r .start ≡ r .len = omega arith in
-    (rw n (x .run (o .ready) ∙ o .run), ap (λ k. (p .0, k * 4 + p .1)) (x .starts (o .ready) ∙ o .start))
+pub viewed-found :
+    {c : List ℕ} {t a z n : ℕ} {w : Walk} {r : WalkRun} → n ≡ questionNumber c t a z → Opened c t a z w → Next c w r → Viewed c t a z n (r .start) (r .len)
+viewed-found {c} {t} {a} {z} {n} {w} {r} e o x =
+    let same : take (r .len) (drop (r .start) c) ≡ run c t a z = x .run (o .ready) ∙ o .run in
+    record {
+      ofNumber = e;
+      ofStart = x .starts (o .ready) ∙ o .start;
+      ofLength = sym (length-part c (r .start) (r .len) (x .inside)) ∙ ap length same;
+      inside = x .inside;
+      part = same;
+    }
+
+-- the run view's contents and its place
+pub view-of-part :
+    {c : List ℕ} {t a z n start len : ℕ} (p : ℕ × ℕ) → Viewed c t a z n start len →
+    (take (start + len - start) (drop start c) ≡ run c t a z) × (_≡_ {A = ℕ × ℕ} (p .0, start * 4 + p .1) (p .0, runStart c t a z * 4 + p .1))
+view-of-part {start = start} {len} p v =
+    let n : start + len - start ≡ len = omega arith in
+    (rw n (v .part), ap (λ k. (p .0, k * 4 + p .1)) (v .ofStart))

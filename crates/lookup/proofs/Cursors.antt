@@ -17,8 +17,8 @@ use Rattle.lookup.specs.declared.walk.WalkRun.{WalkRun}
 use Rattle.lookup.specs.declared.reading.Cursor.{Cursor}
 use Rattle.lookup.specs.declared.reading.Step.{Step}
 use Rattle.lookup.specs.declared.reading.Yield.the-variants.{Posting, End}
-use Rattle.lookup.specs.Found.{found, questionNumber, lookupNumber, lookup, posting, ended, yielded}
-use Rattle.lookup.specs.Reading.{allYielded, Stands, yieldOf, Stepped, Later}
+use Rattle.lookup.specs.Found.{found, questionNumber, lookupNumber, lookup, allYielded, posting, ended, yielded, read}
+use Rattle.lookup.specs.Reading.{Stands, yieldOf, Stepped, Later}
 use Rattle.lookup.specs.Segment.{Opened}
 use Rattle.lookup.specs.Walk.{ahead, ReadyWalk, Next}
 use Rattle.lookup.proofs.Answers.{lookup-found}
@@ -42,6 +42,7 @@ none-ahead c t z = rw (postings-none c)
 
 -- a reader that is opened
 pub opened-refused : {c : List ℕ} {t a z n : ℕ} → n ≡ questionNumber c t a z → (n ≡ 0 → ⊥) → Stands c t a z 0 (record { number = n; at = 0; left = 0; walk = none t z })
+unfolding allYielded
 opened-refused {c} {t} {a} {z} {n} e h =
     record {
       number = e;
@@ -51,6 +52,7 @@ opened-refused {c} {t} {a} {z} {n} e h =
     }
 
 pub opened-reader : {c : List ℕ} {t a z n : ℕ} {w : Walk} → n ≡ questionNumber c t a z → n ≡ 0 → Opened c t a z w → Stands c t a z 0 (record { number = n; at = 0; left = 0; walk = w })
+unfolding allYielded
 opened-reader {c} {t} {a} {z} {n} {w} e h o =
     record {
       number = e;
@@ -72,21 +74,14 @@ yields-end [] (suc n) e = (refl, refl)
 yields-end (y ∷ ys) zero e = absurd (let z : 0 ≡ suc (length ys) = ap length e in omega arith)
 yields-end (y ∷ ys) (suc n) e = yields-end ys n e
 
-yielded-all : (c : List ℕ) (t a z n : ℕ) → yielded c t a z n ≡ getD (map posting (allYielded c t a z)) n ended
-unfolding yielded
-yielded-all c t a z n = go (eqb (questionNumber c t a z) 0)
-  where
-    go : (s : Bool) → cond s (getD (map posting (found c t a z)) n ended) ended ≡ getD (map posting (cond s (found c t a z) [])) n ended
-    go true = refl
-    go false = refl
-
 -- a posting is left
 pub stepped-posting :
     {c : List ℕ} {m at left : ℕ} {w : Walk} → 0 < left → at < length c →
     Stepped c (record { number = m; at = at; left = left; walk = w }) (record { yielded = Posting (getD c at 0); cursor = record { number = m; at = at + 1; left = left - 1; walk = w } })
+unfolding yielded
 stepped-posting {c} {m} {at} {left} {w} l h =
     record {
-      yields = λ t a z n s. sym (yielded-all c t a z n ∙ next t a z n s .0);
+      yields = λ t a z n s. sym (next t a z n s .0);
       stands = λ t a z n s.
           record {
             number = s .number;
@@ -138,9 +133,10 @@ stepped-over {c} {m} {w} {r} at x l =
 pub stepped-end :
     {c : List ℕ} {m : ℕ} {w : Walk} {r : WalkRun} (at : ℕ) → Next c w r → r .len ≡ 0 →
     Stepped c (record { number = m; at = at; left = 0; walk = w }) (record { yielded = End; cursor = record { number = m; at = r .start; left = 0; walk = r .rest } })
+unfolding yielded
 stepped-end {c} {m} {w} {r} at x l =
     record {
-      yields = λ t a z n q. sym (yielded-all c t a z n ∙ yields-end (allYielded c t a z) n (nothing t a z n q) .0);
+      yields = λ t a z n q. sym (yields-end (allYielded c t a z) n (nothing t a z n q) .0);
       stands = λ t a z n q.
           record {
             number = q .number;
@@ -182,20 +178,11 @@ behind-end {c} {v} {n} {k} {i} b l s =
     record { yields = λ t a z m q. let e : m + n ≡ m + i = omega (arith, b .within) in rw e (s .yields t a z (m + i) (b .stands t a z m q)) }
 
 pub behind-stop : {c : List ℕ} {v : Cursor} {n : ℕ} {k : Cursor} {i : ℕ} {r : Step} → Behind c v n k i → Stepped c k r → r .yielded ≡ End → Later c v n End
+unfolding yielded
 behind-stop {c} {v} {n} {k} {i} {r} b s e =
     record {
       yields = λ t a z m q.
           let at : yielded c t a z (m + i) ≡ ended = sym (s .yields t a z (m + i) (b .stands t a z m q)) ∙ ap yieldOf e in
           let far : m + n ≡ m + i + (n - i) = omega (arith, b .within) in
-          sym (rw (far, yielded-all c t a z (m + i + (n - i))) (end-again (allYielded c t a z) (m + i) (n - i) (sym (yielded-all c t a z (m + i)) ∙ at)));
+          sym (rw far (end-again (allYielded c t a z) (m + i) (n - i) at));
     }
-
--- What a reader yields is the lookup: with words enough, the yield after n others is word n of those that the lookup writes, and the end behind the last.
-pub yielded-lookup :
-    (c : List ℕ) (t a z : ℕ) (answer : List ℕ) → lookupNumber c t a z answer ≡ 0 → (n : ℕ) →
-    yielded c t a z n ≡ getD (map posting (take (lookup c t a z answer .count) (lookup c t a z answer .answer))) n ended
-unfolding yielded lookupNumber
-yielded-lookup c t a z answer e n =
-    let h = handed-on (questionNumber c t a z) _ e in
-    let room : length (found c t a z) ≤ length answer = ltb-false (length answer) (length (found c t a z)) (passed (ltb (length answer) (length (found c t a z))) 9 [] (h .1) .0) in
-    rw (eq-eqb (questionNumber c t a z) 0 (h .0), lookup-found c t a z answer e, part-sets-same (found c t a z) answer 0 (let z : 0 + length (found c t a z) ≤ length answer = omega arith in z))

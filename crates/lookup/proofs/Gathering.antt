@@ -11,7 +11,7 @@ use Rattle.lookup.specs.declared.walk.Walk.{Walk}
 use Rattle.lookup.specs.declared.walk.WalkRun.{WalkRun}
 use Rattle.lookup.specs.Walk.{ahead, ReadyWalk, Next}
 
-length-part : (c : List ℕ) (a n : ℕ) → a + n ≤ length c → length (take n (drop a c)) ≡ n
+pub length-part : (c : List ℕ) (a n : ℕ) → a + n ≤ length c → length (take n (drop a c)) ≡ n
 length-part c a n h = rw (length-take, length-drop) (omega arith)
 
 -- n positions of those ahead of the walk v are counted, and the others are ahead of w
@@ -39,7 +39,7 @@ pub counting-end : {c : List ℕ} {v w : Walk} {n : ℕ} {r : WalkRun} → Count
 counting-end k x e = omega (arith, k .total, ap length (x .none (k .ready) e))
 
 -- storing one list after another
-sets-append : (xs ys l : List ℕ) (p : ℕ) → sets l p (xs ++ ys) ≡ sets (sets l p xs) (p + length xs) ys
+pub sets-append : (xs ys l : List ℕ) (p : ℕ) → sets l p (xs ++ ys) ≡ sets (sets l p xs) (p + length xs) ys
 sets-append [] ys l p = rw add-zero
 sets-append (x ∷ xs) ys l p =
     sets-append xs ys (set l p x) (suc p) ∙ (let e : suc p + length xs ≡ p + suc (length xs) = omega arith in rw e)

@@ -1,20 +1,14 @@
 -- The posting reader's cursor, and what is yielded at it.
 use Prim.Native.Nat.{ℕ, _+_, _≤_}
 use mathlib.Core.Path.{_≡_}
-use mathlib.Core.Bool.{cond}
-use mathlib.Core.List.{List, [], _++_}
-use lib.Dec.{eqb}
+use mathlib.Core.List.{List, _++_}
 use lib.ListN.{length, take, drop}
 use Rattle.lookup.specs.declared.reading.Cursor.{Cursor}
 use Rattle.lookup.specs.declared.reading.Step.{Step}
 use Rattle.lookup.specs.declared.reading.Yield.{Yield}
 use Rattle.lookup.specs.declared.reading.Yield.the-variants.{Posting, End}
-use Rattle.lookup.specs.Found.{found, questionNumber, Yielded, posting, ended, yielded}
+use Rattle.lookup.specs.Found.{questionNumber, allYielded, Yielded, posting, ended, yielded, Read}
 use Rattle.lookup.specs.Walk.{ahead, ReadyWalk}
-
--- all that a reader yields: what is found, and nothing where the question is refused
-abbrev pub allYielded : List ℕ → ℕ → ℕ → ℕ → List ℕ
-allYielded c t a z = cond (eqb (questionNumber c t a z) 0) (found c t a z) []
 
 -- the cursor of a reader that was opened with the question and has yielded n times: it carries the question's number, and the
 -- postings left of its run and those ahead of its walk are the others
@@ -36,3 +30,9 @@ pub record Stepped (c : List ℕ) (k : Cursor) (r : Step) : Type 0 where
 -- what is yielded after n others
 pub record Later (c : List ℕ) (k : Cursor) (n : ℕ) (y : Yield) : Type 0 where
   pub yields : (t a z m : ℕ) → Stands c t a z m k → yieldOf y ≡ yielded c t a z (m + n)
+
+-- the number, the count and the answer words left are those of a reading
+pub record ReadOff (number count : ℕ) (answer : List ℕ) (d : Read) : Type 0 where
+  pub ofNumber : number ≡ d .number
+  pub ofCount : count ≡ d .count
+  pub ofAnswer : answer ≡ d .answer

@@ -3,7 +3,7 @@ ghost use mathlib.Core.Path.{_≡_};
 ghost use Prim.Native.Nat.{_+_, _*_};
 ghost use Rattle.pair.specs.Bounds.{lowest, highest};
 ghost use Rattle.lookup.specs.Found.{questionNumber, run, runStart};
-ghost use Rattle.lookup.specs.Answer.{Answered};
+ghost use Rattle.lookup.specs.Answer.{Answered, Viewed};
 use crate::map::opened;
 use crate::taking::copy_ahead;
 use crate::taking::count_ahead;
@@ -72,16 +72,38 @@ pub fn lookup_all(card: &[u32], term: u32, answer: &mut [u32]) -> LookupAnswer
     lookup(card, term, low.position, high.position, answer)
 }
 
-// The wanted live positions of the first block that has any, new segment before old, as a part of the card; the empty part where there is none.
+// The number of a run view that is refused, and where in the card the run starts and how long it is.
+pub struct RunPart {
+    pub number: u32,
+    pub start: usize,
+    pub len: usize,
+}
+
+// The wanted live positions of the first block that has any, new segment before old; none where there are none or the question is refused.
+pub fn run_part(card: &[u32], term: u32, from: u32, to: u32) -> RunPart
+    ensures { λ r. ⌜ Viewed (now (card .entry)) term from to (r .number) (r .start) (r .len) ⌝ }
+{
+    let number = run_view_number(card, term, from, to);
+    if number != 0 {
+        return RunPart {
+            number,
+            start: 0,
+            len: 0,
+        };
+    }
+    let found = next_run(card, opened(card, term, from, to));
+    let start = found.start;
+    let len = found.len;
+    RunPart { number, start, len }
+}
+
+// The same as a part of the card itself.
 pub fn run_view(card: &[u32], term: u32, from: u32, to: u32) -> &[u32]
     ensures { λ r. ⌜ now r ≡ run (now (card .entry)) term from to ⌝ }
     ensures { λ r. ⌜ r .ptr ≡ (card .entry .ptr .0, runStart (now (card .entry)) term from to * 4 + card .entry .ptr .1) ⌝ }
 {
-    if run_view_number(card, term, from, to) != 0 {
-        return &card[0..0];
-    }
-    let found = next_run(card, opened(card, term, from, to));
-    let start = found.start;
-    let end = start + found.len;
+    let part = run_part(card, term, from, to);
+    let start = part.start;
+    let end = start + part.len;
     &card[start..end]
 }

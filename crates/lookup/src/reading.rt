@@ -1,7 +1,8 @@
 // The work of the posting reader, on a plain slice and a cursor by value: a place in the card that moves on by one posting at a time.
 ghost use mathlib.Core.Path.{_≡_};
 ghost use Prim.Native.Nat.{ℕ};
-ghost use Rattle.lookup.specs.Reading.{Stands, Stepped, Later};
+ghost use Rattle.lookup.specs.Found.{read};
+ghost use Rattle.lookup.specs.Reading.{Stands, Stepped, Later, ReadOff};
 use crate::map::opened;
 use crate::run_view_number;
 use crate::walk::Stretch;
@@ -142,4 +143,35 @@ pub fn yield_at(card: &[u32], cursor: Cursor, n: usize) -> Yield
     }
     let last = step_at(card, here);
     last.yielded
+}
+
+// The number of a refusal, and how many postings were read.
+pub struct Reading {
+    pub number: u32,
+    pub count: usize,
+}
+
+// Opens a reader and reads the first postings, as many as there are answer words.
+pub fn read(card: &[u32], term: u32, from: u32, to: u32, answer: &mut [u32]) -> Reading
+    ensures { λ r. ⌜ ReadOff (r .number) (r .count) (now (answer .exit)) (read (now (card .entry)) term from to (now (answer .entry))) ⌝ }
+{
+    let mut here = open_at(card, term, from, to);
+    let number = here.number;
+    let mut count: usize = 0;
+    while count < answer.len() {
+        let step = step_at(card, here);
+        let yielded = step.yielded;
+        match yielded {
+            Yield::Posting(position) => {
+                answer[count] = position;
+            }
+            Yield::End => {
+                return Reading { number, count };
+            }
+        }
+        let behind = step.cursor;
+        here = behind;
+        count += 1;
+    }
+    Reading { number, count }
 }
