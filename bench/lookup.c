@@ -1,8 +1,8 @@
 /* Times lookups on the largest card, full: of frequent and rare terms against the
- * judge alone on the same card, since every lookup judges first; and what a
- * lookup takes beyond the judge, for each position of its answer, against a plain
- * C loop that moves the same words. The calls take turns, and the best call of
- * each counts. */
+ * judge alone on the same card, since every lookup judges first; and what a lookup
+ * and a posting reader take beyond the judge, for each position of the answer,
+ * against a plain C loop that moves the same words. The calls take turns, and the
+ * best call of each counts. */
 #include <inttypes.h>
 #include <stdio.h>
 #include <stdlib.h>
@@ -12,9 +12,10 @@
 
 enum { CALLS = 100 };
 
-/* The best times of a question's three calls, and what the lookup answered. */
+/* The best times of a question's calls, and what the lookup answered. */
 struct times {
     double lookup;
+    double read;
     double judge;
     double plain;
     uint32_t found;
@@ -28,6 +29,15 @@ static double timed_lookup(const uint32_t *card, uint32_t term, uint32_t *answer
     double took = seconds() - began;
     if (number != GI_DONE)
         give_up("a lookup was refused");
+    return took;
+}
+
+static double timed_read(const uint32_t *card, uint32_t term, uint32_t *answer, size_t *found) {
+    double began = seconds();
+    uint32_t number = gi_read(card, CARD_WORDS, term, GI_LOWEST, GI_HIGHEST, answer, CARD_WORDS, found);
+    double took = seconds() - began;
+    if (number != GI_DONE)
+        give_up("a reading was refused");
     return took;
 }
 
@@ -72,20 +82,27 @@ static uint32_t move_positions(uint32_t *card, struct holders places, uint32_t t
     return found;
 }
 
-static struct times time_term(uint32_t *card, uint32_t term, uint32_t *answer, uint32_t *plain_answer) {
-    struct times best = {1e9, 1e9, 1e9, 0, 0};
+/* Keeps the better time. */
+static void better(double *best, double took) {
+    *best = took < *best ? took : *best;
+}
+
+static struct times time_term(uint32_t *card, uint32_t term, uint32_t *answer, uint32_t *read_answer,
+                              uint32_t *plain_answer) {
+    struct times best = {1e9, 1e9, 1e9, 1e9, 0, 0};
     struct holders places = holders_of(card, term);
     for (int i = 0; i < CALLS; i++) {
-        double judge = timed_judge(card);
-        double lookup = timed_lookup(card, term, answer, &best);
+        size_t read;
+        better(&best.judge, timed_judge(card));
+        better(&best.lookup, timed_lookup(card, term, answer, &best));
+        better(&best.read, timed_read(card, term, read_answer, &read));
         double began = seconds();
         uint32_t moved = move_positions(card, places, term, plain_answer);
-        double plain = seconds() - began;
+        better(&best.plain, seconds() - began);
         if (moved != best.found || memcmp(answer, plain_answer, moved * sizeof *answer) != 0)
             give_up("lookup and plain C differ");
-        best.judge = judge < best.judge ? judge : best.judge;
-        best.lookup = lookup < best.lookup ? lookup : best.lookup;
-        best.plain = plain < best.plain ? plain : best.plain;
+        if (moved != read || memcmp(read_answer, plain_answer, moved * sizeof *answer) != 0)
+            give_up("reader and plain C differ");
     }
     return best;
 }
@@ -96,8 +113,11 @@ static void show(const char *what, struct times best) {
     printf("%-22s %9" PRIu32 " %7" PRIu32 " %9.4f %9.4f %7.2f", what, best.found, best.blocks, best.lookup * 1e3,
            best.judge * 1e3, best.lookup / best.judge);
     if (best.found >= ENOUGH) {
+        double lookup = best.lookup - best.judge;
+        double read = best.read - best.judge;
         double ns = 1e9 / best.found;
-        printf(" %10.3f %9.3f", (best.lookup - best.judge) * ns, best.plain * ns);
+        printf(" %9.3f %9.3f %9.3f %7.2f %7.2f", lookup * ns, read * ns, best.plain * ns, lookup / best.plain,
+               read / best.plain);
     }
     putchar('\n');
 }
@@ -120,19 +140,26 @@ static void fill_one_term(uint32_t *card) {
 int main(void) {
     uint32_t *card = words_for(CARD_WORDS);
     uint32_t *answer = words_for(CARD_WORDS);
+    uint32_t *read_answer = words_for(CARD_WORDS);
     uint32_t *plain_answer = words_for(CARD_WORDS);
     uint32_t last = fill_zipf(card, LIVE_PLACES);
+    const struct {
+        const char *what;
+        uint32_t term;
+    } terms[] = {{"the most frequent", 1},
+                 {"the 10th", 10},
+                 {"the 1,000th", 1000},
+                 {"a rare one", last - 2},
+                 {"one that is not there", GI_HIGHEST}};
     printf("lookup, 1,023 places live, ms a call (best of %d); ns a position beyond the judge\n", CALLS);
-    printf("%-22s %9s %7s %9s %9s %7s %10s %9s\n", "term", "positions", "blocks", "lookup", "judge", "ratio", "ns/pos",
-           "plain C");
-    show("the most frequent", time_term(card, 1, answer, plain_answer));
-    show("the 10th", time_term(card, 10, answer, plain_answer));
-    show("the 1,000th", time_term(card, 1000, answer, plain_answer));
-    show("a rare one", time_term(card, last - 2, answer, plain_answer));
-    show("one that is not there", time_term(card, GI_HIGHEST, answer, plain_answer));
+    printf("%-22s %9s %7s %9s %9s %7s %9s %9s %9s %7s %7s\n", "term", "positions", "blocks", "lookup", "judge", "ratio",
+           "lookup ns", "reader ns", "plain C", "ratio", "ratio");
+    for (size_t i = 0; i < sizeof terms / sizeof *terms; i++)
+        show(terms[i].what, time_term(card, terms[i].term, answer, read_answer, plain_answer));
     fill_one_term(card);
-    show("one term, whole card", time_term(card, 1, answer, plain_answer));
+    show("one term, whole card", time_term(card, 1, answer, read_answer, plain_answer));
     free(plain_answer);
+    free(read_answer);
     free(answer);
     free(card);
     return 0;

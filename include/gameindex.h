@@ -123,6 +123,26 @@ uint32_t gi_step(uint32_t *card, size_t card_len, const uint32_t *batch, size_t 
 uint32_t gi_lookup(const uint32_t *card, size_t card_len, uint32_t term, uint32_t from, uint32_t to, uint32_t *answer,
                    size_t answer_len, uint32_t *found, uint32_t *blocks);
 
+/* Reads the first positions of the same question, as many as there are answer
+ * words: one after another into the first of them, their number in found; other
+ * answer words are left as they are. Where found is answer_len there may be more:
+ * ask again from one above the last.
+ *
+ * Gives the judge's number for a card that is not sound, then 9 as the lookup
+ * does, and never 10. After a refusal found is 0 and no answer word has changed.
+ * Gives 0 otherwise. Writes nothing to the card. */
+uint32_t gi_read(const uint32_t *card, size_t card_len, uint32_t term, uint32_t from, uint32_t to, uint32_t *answer,
+                 size_t answer_len, size_t *found);
+
+/* Finds, without moving them, the positions of the same question in the first
+ * block that has any, new segment before old: they are the found words of the card
+ * from card[start] on. Both are 0 where there is none.
+ *
+ * Gives the same numbers as gi_read; after a refusal start and found are 0. Writes
+ * nothing to the card. */
+uint32_t gi_run_view(const uint32_t *card, size_t card_len, uint32_t term, uint32_t from, uint32_t to, size_t *start,
+                     size_t *found);
+
 #ifdef __cplusplus
 }
 #endif

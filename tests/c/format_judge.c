@@ -236,27 +236,15 @@ static void formats(void) {
           "format", "the used card's other words stand");
 }
 
-/* The largest card with one pair in each of 1,023 places, around the circle. */
 static void largest(void) {
     const char *group = "largest card";
-    enum { START = 1000, LIVE = 1023, BLOCKS_AT = GI_CONFIG_WORDS + 2 * 1024 };
-    uint32_t *card = calloc(GI_CARD_WORDS_MAX, sizeof *card);
+    uint32_t *card = largest_card(2);
     check(card != NULL, group, "memory for the card");
     if (card == NULL)
         return;
     check(gi_card_words(1024, 1024) == GI_CARD_WORDS_MAX, group, "its length");
-    gi_format(card, GI_CARD_WORDS_MAX, 1024, 1024);
-    card[GI_CONFIG_OLD_START] = START;
-    card[GI_CONFIG_OLD_LENGTH] = LIVE;
-    for (uint32_t k = 0; k < LIVE; k++) {
-        uint32_t place = (START + k) % 1024;
-        uint32_t *block = card + BLOCKS_AT + (size_t)place * 1024;
-        block[0] = card[GI_CONFIG_WORDS + 2 * place] = 1 + k / 2;
-        block[1] = 1;
-        block[2] = card[GI_CONFIG_WORDS + 2 * place + 1] = 1 + k % 2;
-    }
-    uint32_t *last = card + BLOCKS_AT + (size_t)((START + LIVE - 1) % 1024) * 1024;
-    uint32_t *free_place = card + BLOCKS_AT + (size_t)((START + LIVE) % 1024) * 1024;
+    uint32_t *last = largest_block(card, LARGEST_LIVE - 1);
+    uint32_t *free_place = largest_block(card, LARGEST_LIVE);
     check_number(gi_judge(card, GI_CARD_WORDS_MAX), 0, group, "sound");
     free_place[1023] = 1;
     check_number(gi_judge(card, GI_CARD_WORDS_MAX), 0, group, "a word in the free place");

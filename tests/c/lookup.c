@@ -1,22 +1,36 @@
-/* Tests of gi_lookup: the small cases with every figure, open passes, the counts
- * of blocks, and the refusals. */
+/* Tests of gi_lookup, gi_read and gi_run_view: the small cases with every figure,
+ * open passes, the counts of blocks, and the refusals. */
 #include "small_cards.h"
 
 /* Positions as two arguments: the words and their number. */
 #define FOUND(...) (const uint32_t[]){__VA_ARGS__}, sizeof((uint32_t[]){__VA_ARGS__}) / sizeof(uint32_t)
 #define NONE (const uint32_t[]){UNUSED}, 0
 
-/* Looks up with an answer of some words, a word on either side, and sees that the
- * number, the counts and every word lent are as expected. */
+/* Answer words with a word on either side, all of them unused. */
+static uint32_t *new_answer(size_t length, const char *group) {
+    uint32_t *memory = malloc((length + 2) * sizeof *memory);
+    check(memory != NULL, group, "memory for the answer");
+    for (size_t i = 0; memory != NULL && i < length + 2; i++)
+        memory[i] = UNUSED;
+    return memory;
+}
+
+/* Whether the first answer words are these positions and all others are unused. */
+static bool holds(const uint32_t *memory, size_t length, const uint32_t *positions, size_t count) {
+    bool as_expected = memory[0] == UNUSED;
+    for (size_t i = 0; i <= length; i++)
+        as_expected = as_expected && memory[1 + i] == (i < count ? positions[i] : UNUSED);
+    return as_expected;
+}
+
+/* Looks up with an answer of some words, and sees that the number, the counts and
+ * every word lent are as expected. */
 static void ask(struct card card, size_t length, uint32_t term, uint32_t from, uint32_t to, size_t answer_length,
                 uint32_t number, const uint32_t *positions, size_t count, uint32_t blocks, const char *group,
                 const char *what) {
-    uint32_t *memory = malloc((answer_length + 2) * sizeof *memory);
-    check(memory != NULL, group, "memory for the answer");
+    uint32_t *memory = new_answer(answer_length, group);
     if (memory == NULL)
         return;
-    for (size_t i = 0; i < answer_length + 2; i++)
-        memory[i] = UNUSED;
     struct card before = card;
     uint32_t found = UNUSED;
     uint32_t blocks_read = UNUSED;
@@ -24,23 +38,47 @@ static void ask(struct card card, size_t length, uint32_t term, uint32_t from, u
                  group, what);
     check_number(found, (uint32_t)count, group, what);
     check_number(blocks_read, blocks, group, what);
-    bool as_expected = memory[0] == UNUSED;
-    for (size_t i = 0; i <= answer_length; i++)
-        as_expected = as_expected && memory[1 + i] == (i < count ? positions[i] : UNUSED);
-    check(as_expected, group, what);
+    check(holds(memory, answer_length, positions, count), group, what);
     check(memcmp(card.words, before.words, sizeof before.words) == 0, group, "the lookup wrote nothing to the card");
     free(memory);
 }
 
+/* The same of a reading. */
+static void take(struct card card, size_t length, uint32_t term, uint32_t from, uint32_t to, size_t answer_length,
+                 uint32_t number, const uint32_t *positions, size_t count, const char *group, const char *what) {
+    uint32_t *memory = new_answer(answer_length, group);
+    if (memory == NULL)
+        return;
+    struct card before = card;
+    size_t found = UNUSED;
+    check_number(gi_read(card.words, length, term, from, to, memory + 1, answer_length, &found), number, group, what);
+    check(found == count && holds(memory, answer_length, positions, count), group, what);
+    check(memcmp(card.words, before.words, sizeof before.words) == 0, group, "the reading wrote nothing to the card");
+    free(memory);
+}
+
+/* The same of a run view. */
+static void view(struct card card, size_t length, uint32_t term, uint32_t from, uint32_t to, uint32_t number,
+                 size_t start, size_t count, const char *group, const char *what) {
+    size_t at = UNUSED;
+    size_t found = UNUSED;
+    check_number(gi_run_view(card.words, length, term, from, to, &at, &found), number, group, what);
+    check(at == start && found == count, group, what);
+}
+
 /* A question that is answered, with just enough answer words, one more and many;
- * with one too few it is refused. */
+ * with one too few the lookup is refused, and the reading gives the first. */
 static void found(struct card card, uint32_t term, uint32_t from, uint32_t to, const uint32_t *positions, size_t count,
                   uint32_t blocks, const char *group, const char *what) {
-    ask(card, WORDS, term, from, to, count, GI_DONE, positions, count, blocks, group, what);
-    ask(card, WORDS, term, from, to, count + 1, GI_DONE, positions, count, blocks, group, what);
-    ask(card, WORDS, term, from, to, WORDS, GI_DONE, positions, count, blocks, group, what);
-    for (size_t fewer = 0; fewer < count; fewer++)
+    const size_t enough[] = {count, count + 1, WORDS};
+    for (int i = 0; i < 3; i++) {
+        ask(card, WORDS, term, from, to, enough[i], GI_DONE, positions, count, blocks, group, what);
+        take(card, WORDS, term, from, to, enough[i], GI_DONE, positions, count, group, what);
+    }
+    for (size_t fewer = 0; fewer < count; fewer++) {
         ask(card, WORDS, term, from, to, fewer, GI_LOOKUP_ANSWER, NONE, 0, group, "fewer answer words");
+        take(card, WORDS, term, from, to, fewer, GI_DONE, positions, fewer, group, "fewer answer words");
+    }
 }
 
 static void small_cases(void) {
@@ -127,25 +165,28 @@ static void during_a_pass(void) {
     }
 }
 
-/* One pair in each of the 1,023 places of the largest card, around the circle. */
+/* The positions of the first block that has any, new segment before old. */
+static void run_views(void) {
+    const char *group = "run view";
+    view(case1(), WORDS, 5, 1, 9, GI_DONE, place_word(0, 2), 2, group, "both positions of a term");
+    view(case1(), WORDS, 5, 3, 9, GI_DONE, place_word(0, 3), 1, group, "the last of them");
+    view(case1(), WORDS, 5, 1, 8, GI_DONE, place_word(0, 2), 1, group, "the first of them");
+    view(case1(), WORDS, 7, 1, 9, GI_DONE, place_word(0, 6), 1, group, "the second entry");
+    view(case1(), WORDS, 6, 1, 9, GI_DONE, 0, 0, group, "a term that is not there");
+    view(case3(), WORDS, 8, 1, 9, GI_DONE, place_word(2, 2), 1, group, "in the second of two blocks");
+    view(wrapped(), WORDS, 2, 1, 9, GI_DONE, place_word(1, 6), 1, group, "new segment before old");
+    view(wrapped(), WORDS, 2, 2, 9, GI_DONE, place_word(3, 3), 1, group, "the old segment above the boundary");
+    view(wrapped(), WORDS, 4, 1, 9, GI_DONE, place_word(0, 2), 1, group, "the old segment around the circle");
+}
+
+/* Terms of three pairs, each in a block of its own. */
 static void largest(void) {
     const char *group = "lookup on the largest card";
-    enum { START = 1000, LIVE = 1023, BLOCKS_AT = GI_CONFIG_WORDS + 2 * 1024 };
-    uint32_t *card = calloc(GI_CARD_WORDS_MAX, sizeof *card);
+    uint32_t *card = largest_card(3);
     check(card != NULL, group, "memory for the card");
     if (card == NULL)
         return;
-    gi_format(card, GI_CARD_WORDS_MAX, 1024, 1024);
-    card[GI_CONFIG_OLD_START] = START;
-    card[GI_CONFIG_OLD_LENGTH] = LIVE;
-    for (uint32_t k = 0; k < LIVE; k++) {
-        uint32_t place = (START + k) % 1024;
-        uint32_t *block = card + BLOCKS_AT + (size_t)place * 1024;
-        block[0] = card[GI_CONFIG_WORDS + 2 * place] = 1 + k / 3;
-        block[1] = 1;
-        block[2] = card[GI_CONFIG_WORDS + 2 * place + 1] = 1 + k % 3;
-    }
-    for (uint32_t term = 1; term <= LIVE / 3; term++) {
+    for (uint32_t term = 1; term <= LARGEST_LIVE / 3; term++) {
         uint32_t answer[4] = {UNUSED, UNUSED, UNUSED, UNUSED};
         uint32_t count;
         uint32_t blocks;
@@ -167,6 +208,9 @@ static void refused(struct card card, size_t length, uint32_t term, uint32_t fro
                     const char *what) {
     ask(card, length, term, from, to, 0, number, NONE, 0, "refused lookup", what);
     ask(card, length, term, from, to, 8, number, NONE, 0, "refused lookup", what);
+    take(card, length, term, from, to, 0, number, NONE, "refused reading", what);
+    take(card, length, term, from, to, 8, number, NONE, "refused reading", what);
+    view(card, length, term, from, to, number, 0, 0, "refused run view", what);
 }
 
 static void refusals(void) {
@@ -193,6 +237,7 @@ void test_lookup(void) {
     many_blocks();
     open_pass();
     during_a_pass();
+    run_views();
     largest();
     refusals();
 }

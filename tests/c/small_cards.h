@@ -125,4 +125,32 @@ static inline void judged(struct card card, uint32_t expected, const char *group
     check(memcmp(card.words, before.words, sizeof before.words) == 0, group, "the judge wrote nothing");
 }
 
+/* ---- the largest card */
+
+enum { LARGEST_START = 1000, LARGEST_LIVE = 1023 };
+
+/* The k-th block from the old start on, around the circle. */
+static inline uint32_t *largest_block(uint32_t *card, uint32_t k) {
+    return card + GI_CONFIG_WORDS + GI_MAP_ENTRY_WORDS * 1024 + (size_t)((LARGEST_START + k) % 1024) * 1024;
+}
+
+/* One pair in each of its 1,023 live places, so many pairs to a term; NULL without
+ * memory. */
+static inline uint32_t *largest_card(uint32_t pairs) {
+    uint32_t *card = calloc(GI_CARD_WORDS_MAX, sizeof *card);
+    if (card == NULL)
+        return NULL;
+    gi_format(card, GI_CARD_WORDS_MAX, 1024, 1024);
+    card[GI_CONFIG_OLD_START] = LARGEST_START;
+    card[GI_CONFIG_OLD_LENGTH] = LARGEST_LIVE;
+    for (uint32_t k = 0; k < LARGEST_LIVE; k++) {
+        uint32_t *entry = card + GI_CONFIG_WORDS + GI_MAP_ENTRY_WORDS * ((LARGEST_START + k) % 1024);
+        uint32_t *block = largest_block(card, k);
+        block[0] = entry[0] = 1 + k / pairs;
+        block[1] = 1;
+        block[2] = entry[1] = 1 + k % pairs;
+    }
+    return card;
+}
+
 #endif

@@ -229,6 +229,26 @@ impl Steps {
     }
 }
 
+/// The answer of a step that made a write.
+pub fn done(write: u32, freed: u32, finished: bool) -> StepAnswer {
+    StepAnswer {
+        number: 0,
+        write,
+        freed,
+        finished,
+    }
+}
+
+/// The answer of a refused step.
+pub fn refused(number: u32) -> StepAnswer {
+    StepAnswer {
+        number,
+        write: 0,
+        freed: 0,
+        finished: false,
+    }
+}
+
 /// A slice's words with guard words before and after them.
 struct Guarded {
     words: Vec<u32>,
@@ -343,14 +363,16 @@ pub fn pass(steps: &mut Steps, card: &mut [u32], batch: &[u32], about: &dyn Fn()
 pub type Question = (u32, u32, u32);
 
 /// Both lookups give the same answer and leave the same answer words, the ones not needed as they
-/// were; a refused one leaves them all; card, and words around the answer words, stay.
+/// were; a refused one leaves them all; card, and words around the answer words, stay. The reading
+/// of the same question and its run view are compared too.
 pub fn lookup(
     tally: &mut Tally,
     card: &[u32],
-    (term, from, to): Question,
+    question: Question,
     answer: &[u32],
     about: &dyn Fn() -> String,
 ) -> LookupAnswer {
+    let (term, from, to) = question;
     let mut expected_words = answer.to_vec();
     let expected = second::lookup(card, term, from, to, &mut expected_words);
     let before = card.to_vec();
@@ -382,9 +404,30 @@ pub fn lookup(
     }
     assert_eq!(lent.inside(), expected_words, "answer words; {}", message());
     assert!(lent.guards_stand(), "lookup wrote outside; {}", message());
-    assert!(before == card, "lookup changed its card; {}", message());
+    read(card, question, answer, &message);
+    let view = ffi::run_view(card, term, from, to);
+    let expected_view = second::run_view(card, term, from, to);
+    assert_eq!(view, expected_view, "run view; {}", message());
+    assert!(before == card, "the card was changed; {}", message());
     tally.note(reply.number);
     reply
+}
+
+/// The reading gives what the second program's reader yields first, as much as there are answer
+/// words, and leaves the other answer words and those around them.
+fn read(card: &[u32], question: Question, answer: &[u32], message: &dyn Fn() -> String) {
+    let (term, from, to) = question;
+    let reader = second::PostingReader::open(card, term, from, to);
+    let number = reader.number();
+    let positions: Vec<u32> = reader.take(answer.len()).collect();
+    let mut lent = Guarded::new(answer);
+    let reply = ffi::read(card, term, from, to, lent.inside());
+    let expected = (number, positions.len());
+    assert_eq!(reply, expected, "the reading's reply; {}", message());
+    let (read, others) = lent.inside().split_at(positions.len());
+    assert_eq!(read, positions, "the reading's words; {}", message());
+    let kept = others == &answer[positions.len()..] && lent.guards_stand();
+    assert!(kept, "the reading wrote other words; {}", message());
 }
 
 /// The lookup with just enough answer words, with one too few, and with another number of them.

@@ -1,5 +1,7 @@
 // The C functions under test and safe wrappers over slices.
 
+use std::ops::Range;
+
 use crate::lists::Program;
 use crate::second::{LookupAnswer, StepAnswer};
 
@@ -29,6 +31,25 @@ mod c {
             answer_len: usize,
             found: *mut u32,
             blocks: *mut u32,
+        ) -> u32;
+        pub fn gi_run_view(
+            card: *const u32,
+            card_len: usize,
+            term: u32,
+            from: u32,
+            to: u32,
+            start: *mut usize,
+            found: *mut usize,
+        ) -> u32;
+        pub fn gi_read(
+            card: *const u32,
+            card_len: usize,
+            term: u32,
+            from: u32,
+            to: u32,
+            answer: *mut u32,
+            answer_len: usize,
+            found: *mut usize,
         ) -> u32;
     }
 }
@@ -91,6 +112,45 @@ pub fn lookup(card: &[u32], term: u32, from: u32, to: u32, answer: &mut [u32]) -
         count,
         blocks,
     }
+}
+
+/// The number, and the words of the card that hold the run.
+pub fn run_view(card: &[u32], term: u32, from: u32, to: u32) -> (u32, Range<usize>) {
+    let (mut start, mut found) = (usize::MAX, usize::MAX);
+    // SAFETY: pointer and length are those of one slice lent for reading, and the counts are words
+    // of this call.
+    let number = unsafe {
+        c::gi_run_view(
+            card.as_ptr(),
+            card.len(),
+            term,
+            from,
+            to,
+            &mut start,
+            &mut found,
+        )
+    };
+    (number, start..start + found)
+}
+
+/// The number, and how many positions were read into the first answer words.
+pub fn read(card: &[u32], term: u32, from: u32, to: u32, answer: &mut [u32]) -> (u32, usize) {
+    let mut found = usize::MAX;
+    // SAFETY: each pointer and length are those of one slice; the answer's is lent for writing, and
+    // the count is a word of this call.
+    let number = unsafe {
+        c::gi_read(
+            card.as_ptr(),
+            card.len(),
+            term,
+            from,
+            to,
+            answer.as_mut_ptr(),
+            answer.len(),
+            &mut found,
+        )
+    };
+    (number, found)
 }
 
 /// The library under test, for lists of calls.

@@ -5,27 +5,10 @@ use std::collections::BTreeSet;
 
 use gameindex_tests::batches::{self, addition, removal, Mixture, Universe};
 use gameindex_tests::cards;
+use gameindex_tests::compare::{done, refused};
 use gameindex_tests::lists::{self, Figures, List, Second};
 use gameindex_tests::random::Random;
-use gameindex_tests::second::{self, block, Configuration, Pair, StepAnswer, HIGHEST, LOWEST};
-
-fn done(write: u32, freed: u32, finished: bool) -> StepAnswer {
-    StepAnswer {
-        number: 0,
-        write,
-        freed,
-        finished,
-    }
-}
-
-fn refused(number: u32) -> StepAnswer {
-    StepAnswer {
-        number,
-        write: 0,
-        freed: 0,
-        finished: false,
-    }
-}
+use gameindex_tests::second::{self, block, Configuration, Pair, HIGHEST, LOWEST};
 
 fn zeros(n: u32) -> Vec<u32> {
     let mut card = vec![0; cards::right_length(8, n)];

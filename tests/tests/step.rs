@@ -4,7 +4,7 @@ use std::collections::BTreeSet;
 
 use gameindex_tests::batches::{self, addition, removal, Mixture, Universe};
 use gameindex_tests::cards;
-use gameindex_tests::compare::{self, Steps};
+use gameindex_tests::compare::{self, done, refused, Steps};
 use gameindex_tests::ffi;
 use gameindex_tests::random::Random;
 use gameindex_tests::second::block;
@@ -28,24 +28,6 @@ fn any_batch(random: &mut Random, card: &[u32], universe: &Universe, most: usize
         batches::near(random, card, mixture, most)
     } else {
         batches::good(random, universe, mixture, most)
-    }
-}
-
-fn done(write: u32, freed: u32, finished: bool) -> StepAnswer {
-    StepAnswer {
-        number: 0,
-        write,
-        freed,
-        finished,
-    }
-}
-
-fn refused(number: u32) -> StepAnswer {
-    StepAnswer {
-        number,
-        write: 0,
-        freed: 0,
-        finished: false,
     }
 }
 

@@ -132,7 +132,7 @@ fn seek(card: &[u32], term: u32, to: u32, s: Stretch) -> StretchRun
 }
 
 // The next run of a walk.
-pub fn next_run(card: &[u32], w: Walk) -> WalkRun
+pub(crate) fn next_run(card: &[u32], w: Walk) -> WalkRun
     ensures { λ r. ⌜ Next (now (card .entry)) w r ⌝ }
 {
     let term = w.term;
