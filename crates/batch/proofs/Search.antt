@@ -1,18 +1,16 @@
 -- The searches over the records of a batch: the next addition, the records of a term, whether a pair is withdrawn.
 use Prim.Native.Nat.{ℕ, zero, suc, _+_, _*_, _-_, _/_, _≤_, _<_}
-use native.Mathlib.Nat.{add-zero, zero-add}
-use native.Mathlib.Numerals.{add-one}
+use native.Mathlib.Nat.{add-zero}
 use native.Mathlib.Omega.{arith}
-use mathlib.Core.Path.{_≡_, refl, sym, ap, _∙_}
+use mathlib.Core.Path.{_≡_, refl, sym, _∙_}
 use mathlib.Core.Bool.{Bool, true, false, cond, _&&_, _||_, not, or-assoc, or-false, and-false, and-true, false≢true}
 use mathlib.Core.List.{List, [], _∷_}
 use lib.ListN.{length, drop, getD, length-drop}
-use lib.Seq.{drop-drop, drop-nil}
+use lib.Seq.{drop-nil}
 use lib.Dec.{ltb, leb, eqb}
 use borrow.Author.Tests.{ltb-true, ltb-false, le-leb, lt-leb, ne-eqb, le-ltb, lt-ltb, leb-false}
-use Rattle.pair.specs.Rank.{rank, term, Words}
+use Rattle.pair.specs.Rank.{rank, term}
 use Rattle.pair.proofs.Tests.{and-left, and-right, or-left, or-right, or-both, and-both, not-holds}
-use Rattle.batch.specs.declared.Addition.{Addition}
 use Rattle.batch.specs.Batch.{Update, updates, anyUpdate, removes, adds, withdrawn, falls}
 use Rattle.batch.specs.Search.{addsAbove, firstAdded, beforeAdded, nextAddition, beforeReaching, firstReaching}
 use Rattle.batch.proofs.Merge.{leastAdded, leastAdded-first, earlier}

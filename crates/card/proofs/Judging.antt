@@ -3,22 +3,21 @@ use Prim.Native.Nat.{ℕ, zero, suc, _+_, _-_, _%_, _≤_, _<_, zero-le}
 use native.Mathlib.Nat.{mod-eq-of-lt}
 use native.Mathlib.Omega.{arith}
 use mathlib.Core.Path.{_≡_, refl, sym, ap, _∙_}
-use mathlib.Core.Bool.{Bool, true, false, cond, _&&_, _||_, not, and-assoc, and-true, and-false, and-comm}
+use mathlib.Core.Bool.{Bool, true, false, cond, _&&_, and-true, and-comm}
 use mathlib.Core.List.{List, [], _∷_, _++_}
-use borrow.Author.Tests.{ltb-true, ltb-false, lt-ltb, le-ltb}
 use lib.ListN.{length, take, drop, getD}
-use lib.Dec.{ltb, leb, eqb}
+use lib.Dec.{ltb, eqb}
 use Rattle.pair.specs.Rank.{Words}
-use Rattle.pair.specs.Rising.{risingFrom, last, any, firstOf}
-use Rattle.pair.proofs.Tests.{and-left, and-right, and-both}
-use Rattle.pair.proofs.Rising.{last-some, any-last, last-append, rising-append, rising-weaker, rising-last, rising-head, rising-tail}
+use Rattle.pair.specs.Rising.{risingFrom, last, any}
+use Rattle.pair.proofs.Tests.{and-left, and-right}
+use Rattle.pair.proofs.Rising.{last-some, any-last, last-append, rising-append, rising-tail}
 use Rattle.block.specs.Block.{pairs, formed}
 use Rattle.block.specs.Scan.{scanned}
 use Rattle.block.specs.declared.BlockScan.{BlockScan}
 use Rattle.block.proofs.Reading.{formed-rising, formed-some}
 use Rattle.card.proofs.Live.{place-words}
 use Rattle.card.specs.Layout.{oldStart, oldLength, oldPlaces, placeCount, blockSize, entryWidth, placeAt, firstPair, place, around, pairsAt}
-use Rattle.card.specs.Sound.{blocksSound, firstReaches, segmentsSound, judged}
+use Rattle.card.specs.Sound.{blocksSound, firstReaches}
 use Rattle.card.specs.Scan.{liveBlock, blockScanned, segmentSound, segmentScanned}
 
 -- a test beside a value that stands only where the block is live

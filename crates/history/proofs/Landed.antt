@@ -13,7 +13,7 @@ use Rattle.pair.proofs.Each.{Each-append, Each-imply, Each-last}
 use Rattle.pair.proofs.Parts.{atMost-append, atMost-atMost, above-atMost, atMost-take, rises-above, above-joined, atMost-joined, atMost-joined-nearer, rising-joined, above-Each, atMost-Each}
 use Rattle.block.specs.Block.{fitting, due, goesOn}
 use Rattle.block.proofs.Due.{due-some, goesOn-some, rising-due, proper-due}
-use Rattle.batch.specs.Batch.{Update, updates, applied, batchNumber}
+use Rattle.batch.specs.Batch.{updates, applied, batchNumber}
 use Rattle.batch.proofs.Meaning.{rises-applied}
 use Rattle.batch.proofs.InOrder.{proper-batch}
 use Rattle.history.specs.History.{History, toWrite, next, landed}

@@ -1,14 +1,14 @@
 -- The posting reader yields what the lookup gives.
 use Prim.Native.Nat.{ℕ, _≤_}
 use native.Mathlib.Omega.{arith}
-use mathlib.Core.Path.{_≡_, refl, sym, ap, _∙_}
-use mathlib.Core.List.{List, map}
+use mathlib.Core.Path.{_≡_, refl, sym, _∙_}
+use mathlib.Core.List.{List}
 use borrow.Author.Tests.{ltb-false}
-use lib.ListN.{length, take, getD}
+use lib.ListN.{length, take}
 use lib.Seq.{sets, take-all}
 use Rattle.pair.proofs.FirstOf.{passed, handed-on}
 use Rattle.card.proofs.Parts.{part-sets-same}
-use Rattle.lookup.specs.Found.{found, questionNumber, lookupNumber, lookup, allYielded, posting, ended, yielded, read}
+use Rattle.lookup.specs.Found.{found, questionNumber, lookupNumber, allYielded, yielded, read}
 use Rattle.lookup.proofs.Answers.{lookup-found, lookup-number}
 use Rattle.history.specs.Claims.{ReaderYieldsLookup, ReadingIsLookup}
 

@@ -1,15 +1,15 @@
 -- The positions on small cards of document 01, P1 to P8, as one table.
 use mathlib.Core.Path.{_≡_}
 use Prim.Native.Nat.{ℕ, zero, suc}
-use mathlib.Core.Bool.{Bool, true, false, cond, _&&_, not}
+use mathlib.Core.Bool.{Bool, true, cond, _&&_}
 use mathlib.Core.List.{List, [], _∷_}
 use lib.ListN.{length, take, replicate}
 use lib.Dec.{eqb}
 use Rattle.pair.specs.Rank.{rank}
 use Rattle.pair.specs.Rising.{same}
 use Rattle.card.specs.Layout.{entryWidth, cardLength, place, live, formatted}
-use Rattle.update.specs.Step.{Step, step}
-use Rattle.lookup.specs.Found.{Lookup, lookup}
+use Rattle.update.specs.Step.{step}
+use Rattle.lookup.specs.Found.{lookup}
 
 -- an answer of a step: the write, the places freed, and 1 where the pass finished
 abbrev pub Made : Type 0

@@ -1,9 +1,9 @@
 -- What is claimed of the definitions, each as a type that a theorem inhabits.
-use Prim.Native.Nat.{ℕ, zero, suc, _+_, _-_, _≤_, _<_}
+use Prim.Native.Nat.{ℕ, _+_, _-_, _≤_}
 use mathlib.Core.Path.{_≡_}
-use mathlib.Core.Bool.{Bool, true, false, cond, _&&_, _||_, not}
+use mathlib.Core.Bool.{Bool, true, false, _&&_, _||_}
 use mathlib.Core.List.{List, [], _∷_, map}
-use lib.Dec.{eqb, leb, ltb}
+use lib.Dec.{eqb}
 use lib.ListN.{take, drop, getD}
 use Rattle.pair.specs.Rank.{rank, Words}
 use Rattle.pair.specs.Rising.{above, atMost}
@@ -11,9 +11,9 @@ use Rattle.block.specs.Block.{fitting}
 use Rattle.card.specs.Layout.{placeCount, oldLength, newLength, blockSize, boundary, oldPlaces, newPlaces, live, formatNumber}
 use Rattle.card.specs.Sound.{judged}
 use Rattle.batch.specs.Batch.{Update, updates, anyUpdate, applied, batchNumber}
-use Rattle.update.specs.Step.{Step, remains, stepNumber, step}
+use Rattle.update.specs.Step.{remains, stepNumber, step}
 use Rattle.update.specs.Pass.{stepLimit, finishesWithin, refusedWithin}
-use Rattle.lookup.specs.Found.{questionNumber, blocksRead, holders, Lookup, lookup, posting, ended, yielded, read}
+use Rattle.lookup.specs.Found.{questionNumber, blocksRead, holders, lookup, posting, ended, yielded, read}
 use Rattle.history.specs.History.{Event, stepped, cut, looked, restarted, formats, after, AllOfWords}
 
 -- a pass left uncut and unrefused, with its batch kept, finishes within the step limit

@@ -3,7 +3,7 @@ use Prim.Native.Nat.{ℕ, _+_, _*_, _-_, _≤_, _<_, zero-le}
 use native.Mathlib.Omega.{arith}
 use mathlib.Core.Path.{_≡_, refl, sym, ap, _∙_}
 use mathlib.Core.Bool.{true, false, _||_}
-use mathlib.Core.List.{List, []}
+use mathlib.Core.List.{List}
 use borrow.Author.Tests.{eq-eqb, ne-eqb, lt-ltb, le-ltb}
 use lib.ListN.{length, take, drop}
 use lib.Seq.{sets}
@@ -12,9 +12,8 @@ use Rattle.pair.specs.Rising.{firstOf}
 use Rattle.card.specs.Sound.{judged}
 use Rattle.lookup.specs.declared.walk.Walk.{Walk}
 use Rattle.lookup.specs.declared.walk.WalkRun.{WalkRun}
-use Rattle.lookup.specs.declared.LookupAnswer.{LookupAnswer}
 use Rattle.lookup.specs.declared.LookupAnswer.the-variants.{Refused, Found}
-use Rattle.lookup.specs.Answer.{numberOf, countOf, blocksReadOf, Answered, Viewed}
+use Rattle.lookup.specs.Answer.{Answered, Viewed}
 use Rattle.lookup.specs.Found.{found, questionNumber, lookupNumber, run, runStart}
 use Rattle.lookup.specs.Segment.{Opened}
 use Rattle.lookup.specs.Walk.{ahead, blocksOf, Next}

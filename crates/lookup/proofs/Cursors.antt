@@ -3,25 +3,20 @@ use Prim.Native.Nat.{ℕ, zero, suc, _+_, _-_, _≤_, _<_, zero-le}
 use native.Mathlib.Numerals.{add-one}
 use native.Mathlib.Omega.{arith}
 use mathlib.Core.Path.{_≡_, refl, sym, ap, _∙_}
-use mathlib.Core.Bool.{Bool, true, false, cond}
 use mathlib.Core.List.{List, [], _∷_, _++_, map}
-use borrow.Author.Tests.{eq-eqb, ne-eqb, ltb-false}
+use borrow.Author.Tests.{eq-eqb, ne-eqb}
 use lib.ListN.{length, take, drop, getD}
 use lib.Seq.{drop-cons}
-use lib.Dec.{ltb, eqb}
-use Rattle.pair.proofs.FirstOf.{passed, handed-on}
 use Rattle.card.specs.Layout.{around}
-use Rattle.card.proofs.Parts.{part-sets-same}
 use Rattle.lookup.specs.declared.walk.Walk.{Walk}
 use Rattle.lookup.specs.declared.walk.WalkRun.{WalkRun}
 use Rattle.lookup.specs.declared.reading.Cursor.{Cursor}
 use Rattle.lookup.specs.declared.reading.Step.{Step}
 use Rattle.lookup.specs.declared.reading.Yield.the-variants.{Posting, End}
-use Rattle.lookup.specs.Found.{found, questionNumber, lookupNumber, lookup, allYielded, posting, ended, yielded, read}
+use Rattle.lookup.specs.Found.{found, questionNumber, allYielded, posting, ended, yielded}
 use Rattle.lookup.specs.Reading.{Stands, yieldOf, Stepped, Later}
 use Rattle.lookup.specs.Segment.{Opened}
 use Rattle.lookup.specs.Walk.{ahead, ReadyWalk, Next}
-use Rattle.lookup.proofs.Answers.{lookup-found}
 use Rattle.lookup.proofs.Walking.{postings-none}
 
 -- no block is ahead of a walk without blocks

@@ -1,11 +1,11 @@
 -- Looking up a term in a range of positions.
-use Prim.Native.Nat.{ℕ, zero, suc, _+_, _*_, _-_}
-use mathlib.Core.Bool.{Bool, true, false, cond, _&&_, _||_, not}
-use mathlib.Core.List.{List, [], _∷_, _++_, map}
-use lib.ListN.{length, take, drop, getD}
+use Prim.Native.Nat.{ℕ, suc, _+_, _-_}
+use mathlib.Core.Bool.{cond, _&&_, _||_, not}
+use mathlib.Core.List.{List, [], _∷_, map}
+use lib.ListN.{length, take, getD}
 use lib.Seq.{sets}
 use lib.Dec.{ltb, leb, eqb}
-use Rattle.pair.specs.Rank.{rank, term, position}
+use Rattle.pair.specs.Rank.{rank, position}
 use Rattle.pair.specs.Rising.{above, within, any, firstOf}
 use Rattle.block.specs.Block.{pairs}
 use Rattle.block.specs.Wanted.{wordsBefore}

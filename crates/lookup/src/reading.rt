@@ -1,5 +1,4 @@
 // The work of the posting reader, on a plain slice and a cursor by value: a place in the card that moves on by one posting at a time.
-ghost use mathlib.Core.Path.{_≡_};
 ghost use Prim.Native.Nat.{ℕ};
 ghost use Rattle.lookup.specs.Found.{read};
 ghost use Rattle.lookup.specs.Reading.{Stands, Stepped, Later, ReadOff};

@@ -10,7 +10,7 @@ use lib.Dec.{ltb, leb}
 use borrow.Author.Tests.{leb-true, leb-false, le-leb, lt-leb}
 use Rattle.pair.specs.Rising.{keep, above, atMost, risingFrom}
 use Rattle.pair.proofs.Keep.{keep-keep, length-keep}
-use Rattle.pair.proofs.Rising.{rising-tail, rising-keep, rising-above}
+use Rattle.pair.proofs.Rising.{rising-tail, rising-above}
 use Rattle.pair.proofs.Parts.{parts, atMost-none, atMost-append, atMost-atMost, atMost-nearer, atMost-above-none}
 
 -- an element at most b stands among the first so many, and one above b behind them

@@ -1,18 +1,17 @@
 -- One pair after the other from the old segment: where the cursor stands after each way of going on.
-use Prim.Native.Nat.{ℕ, zero, suc, _+_, _*_, _-_, _%_, _≤_, _<_}
+use Prim.Native.Nat.{ℕ, zero, suc, _+_, _-_, _%_, _≤_, _<_}
 use native.Mathlib.Omega.{arith}
-use native.Mathlib.Numerals.{add-one}
 use native.Mathlib.Nat.{mul-le-mul-right, mod-lt}
-use mathlib.Core.Path.{_≡_, refl, sym, ap, _∙_}
-use mathlib.Core.Bool.{Bool, true, false, cond, _&&_, not, false≢true}
+use mathlib.Core.Path.{_≡_, refl, sym, _∙_}
+use mathlib.Core.Bool.{Bool, true, false, _&&_, not, false≢true}
 use mathlib.Core.Logic.{_≢_}
 use mathlib.Core.List.{List, [], _∷_, _++_}
-use lib.ListN.{length, take, drop, getD, length-take, length-drop}
+use lib.ListN.{length, getD, length-take, length-drop}
 use lib.Seq.{drop-cons}
 use lib.Dec.{ltb, eqb}
 use borrow.Author.Tests.{ltb-true, ne-eqb, le-leb, lt-leb}
 use Rattle.pair.specs.Rank.{rank}
-use Rattle.pair.specs.Rising.{above, risingFrom}
+use Rattle.pair.specs.Rising.{risingFrom}
 use Rattle.pair.proofs.Tests.{and-left, and-right, contradiction}
 use Rattle.pair.proofs.Rising.{rising-head, rising-tail}
 use Rattle.block.specs.Block.{pairsFrom, pairs, formedFrom, formed}

@@ -1,5 +1,5 @@
 -- The merge: what remains is the pairs put into the due block so far, and what the batch makes of the live pairs above the pair passed last.
-use Prim.Native.Nat.{ℕ, zero, suc, min, _+_, _-_, _≤_, _<_}
+use Prim.Native.Nat.{ℕ, zero, suc, _+_, _-_, _≤_, _<_}
 use native.Mathlib.Omega.{arith}
 use mathlib.Core.Path.{_≡_, refl, sym, ap, _∙_}
 use mathlib.Core.Bool.{Bool, true, false, cond, _&&_, not}
@@ -8,29 +8,28 @@ use mathlib.Core.List.{List, [], _∷_, _++_, append-assoc, append-nil}
 use lib.ListN.{length, drop, getD, set, replicate, length-append, length-set}
 use lib.Seq.{drop-drop}
 use lib.Dec.{ltb, leb, eqb, eqb·suc-zero}
-use borrow.Author.Tests.{eq-eqb, ne-eqb, eqb-false, ltb-true, ltb-false, le-leb, lt-leb, leb-true, leb-false}
-use Rattle.pair.specs.Rank.{term, position, Proper, Words}
-use Rattle.pair.specs.Rising.{Each, above, last, risingFrom}
+use borrow.Author.Tests.{ne-eqb, ltb-true, ltb-false, leb-true, leb-false}
+use Rattle.pair.specs.Rank.{term, position, Proper}
+use Rattle.pair.specs.Rising.{above, last}
 use Rattle.pair.proofs.Each.{Each-second}
-use Rattle.pair.proofs.Tests.{and-left, and-right, compared}
+use Rattle.pair.proofs.Tests.{and-left, and-right}
 use Rattle.pair.proofs.Rising.{rises, rises-from}
-use Rattle.pair.proofs.Parts.{above-further, above-append, above-none, above-above, rises-next, Each-above}
-use Rattle.block.specs.Block.{cost, due, goesOn, blockOf}
+use Rattle.pair.proofs.Parts.{above-further, rises-next, Each-above}
+use Rattle.block.specs.Block.{cost, due, goesOn}
 use Rattle.block.proofs.Size.{size, length-size}
 use Rattle.block.proofs.Filling.{Filled, filled-end, filled-full}
-use Rattle.card.specs.Layout.{blockSize, boundary, oldPlaces, pairsAt, live}
+use Rattle.card.specs.Layout.{blockSize, boundary, live}
 use Rattle.card.proofs.Facts.{Facts}
 use Rattle.card.proofs.Live.{live-rising, live-above}
 use Rattle.batch.specs.Batch.{Update, updates, withdrawn, withAdded, applied, batchNumber}
-use Rattle.batch.specs.Search.{firstAdded, beforeAdded, nextAddition, beforeReaching, firstReaching}
+use Rattle.batch.specs.Search.{beforeAdded, nextAddition, beforeReaching, firstReaching}
 use Rattle.batch.specs.declared.Addition.{Addition}
 use Rattle.batch.proofs.InOrder.{Formed, inOrder, formed-updates}
 use Rattle.batch.proofs.Meaning.{rises-withAdded}
-use Rattle.batch.proofs.Merge.{firstAbove, earlier, leastAdded, earlier-none, earlier-left, earlier-right, firstAbove-withAdded, applied-turn, applied-end}
+use Rattle.batch.proofs.Merge.{firstAbove, earlier, leastAdded, earlier-left, earlier-right, firstAbove-withAdded, applied-turn, applied-end}
 use Rattle.batch.proofs.Search.{EachUpdate-drop, falls-drop, firstAdded-least, leastAdded-before, withdrawn-before}
 use Rattle.update.specs.declared.old.OldCursor.{OldCursor}
 use Rattle.update.specs.declared.packing.Packing.{Packing}
-use Rattle.update.specs.declared.due.Due.{Due}
 use Rattle.update.specs.Due.{lesser, Answers}
 use Rattle.update.specs.Old.{coming, pending, Stands, Advanced, Skipped, started}
 use Rattle.update.specs.Packing.{Puts, putWords, putPacking}

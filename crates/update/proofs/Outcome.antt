@@ -1,5 +1,5 @@
 -- What a step does with the due block in hand is what the definition of a step says.
-use Prim.Native.Nat.{ℕ, zero, suc, _+_, _-_, _%_, _≤_, _<_}
+use Prim.Native.Nat.{ℕ, zero, suc, _+_, _-_, _≤_, _<_}
 use native.Mathlib.Omega.{arith}
 use native.Mathlib.Nat.{add-zero}
 use native.Mathlib.Numerals.{add-one}
@@ -11,13 +11,13 @@ use lib.ListN.{length, take, drop, getD, set, replicate, length-replicate, lengt
 use lib.Seq.{sets, drop-cons, length-take-le, take-at}
 use lib.Dec.{leb, eqb}
 use borrow.Author.Tests.{eq-eqb, ne-eqb, eqb-true, eqb-false, le-leb, lt-leb}
-use Rattle.pair.specs.Rank.{term, position, Proper, Words}
+use Rattle.pair.specs.Rank.{term, position, Proper}
 use Rattle.pair.specs.Rising.{Each, last, same, firstOf}
 use Rattle.block.specs.Block.{packedAfter, blockOf, due, goesOn}
 use Rattle.block.proofs.Due.{due-some, proper-due}
 use Rattle.card.specs.Layout.{blockSize, placeCount, oldStart, oldLength, newLength, entryWidth, entryAt, placeAt, place, oldPlaces}
 use Rattle.card.specs.Sound.{judged}
-use Rattle.card.proofs.Facts.{Facts, facts}
+use Rattle.card.proofs.Facts.{Facts}
 use Rattle.batch.specs.Batch.{batchNumber}
 use Rattle.update.specs.declared.StepAnswer.{StepAnswer}
 use Rattle.update.specs.declared.due.Due.{Due}

@@ -1,28 +1,28 @@
 -- The loops over the old segment: to the first pair above a rank, and over the places that have none.
-use Prim.Native.Nat.{ℕ, zero, suc, _+_, _-_, _%_, _≤_, _<_, zero-le}
+use Prim.Native.Nat.{ℕ, suc, _+_, _-_, _%_, _≤_, _<_, zero-le}
 use native.Mathlib.Omega.{arith}
-use native.Mathlib.Nat.{add-zero, mod-lt}
-use mathlib.Core.Path.{_≡_, refl, sym, ap, _∙_}
-use mathlib.Core.Bool.{Bool, true, false, cond, _&&_, not, false≢true}
-use mathlib.Core.List.{List, [], _∷_, _++_}
-use lib.ListN.{length, getD}
+use native.Mathlib.Nat.{add-zero}
+use mathlib.Core.Path.{_≡_, refl, sym, _∙_}
+use mathlib.Core.Bool.{Bool, true, false, _&&_, not}
+use mathlib.Core.List.{List, _∷_}
+use lib.ListN.{length}
 use lib.Dec.{ltb, leb, eqb}
-use borrow.Author.Tests.{eqb-false, leb-true, leb-false, not-true, lt-ltb, le-ltb}
+use borrow.Author.Tests.{leb-true, leb-false, not-true, lt-ltb, le-ltb}
 use Rattle.pair.specs.Rank.{Words}
-use Rattle.pair.specs.Rising.{keep, above, risingFrom, last, any}
+use Rattle.pair.specs.Rising.{keep, above, last, any}
 use Rattle.pair.proofs.Tests.{and-left, and-right}
 use Rattle.pair.proofs.Parts.{above-all}
 use Rattle.pair.proofs.Rising.{any-last, rising-cons}
 use Rattle.block.specs.Block.{pairs, formed}
 use Rattle.block.specs.Scan.{scanned}
 use Rattle.block.proofs.Reading.{formed-rising}
-use Rattle.card.specs.Layout.{blockSize, placeCount, oldStart, oldLength, entryWidth, placeAt, place, around, oldPlaces, pairsAt}
-use Rattle.card.specs.Sound.{blocksSound, judged}
+use Rattle.card.specs.Layout.{placeCount, oldStart, oldLength, place, around, oldPlaces, pairsAt}
+use Rattle.card.specs.Sound.{blocksSound}
 use Rattle.card.specs.Scan.{Shaped}
 use Rattle.card.proofs.Facts.{Facts}
 use Rattle.card.proofs.Live.{place-words}
 use Rattle.update.specs.declared.old.OldCursor.{OldCursor}
-use Rattle.update.specs.Old.{coming, pending, Reading, Stands, Advanced, Skipped, started}
+use Rattle.update.specs.Old.{coming, pending, Stands, Advanced, Skipped, started}
 use Rattle.update.specs.Step.{spent}
 use Rattle.update.proofs.Cursor.{place-block}
 

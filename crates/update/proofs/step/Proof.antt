@@ -1,5 +1,5 @@
 -- `update::step` meets its contract: a refusal of the judge, a refusal of the batch, or the outcome with the due block of what remains.
-use Prim.Native.Nat.{ℕ, _≤_}
+use Prim.Native.Nat.{ℕ}
 use native.Mathlib.Omega.{arith}
 use mathlib.Core.Path.{_≡_, refl, sym, ap, _∙_}
 use mathlib.Core.List.{List}

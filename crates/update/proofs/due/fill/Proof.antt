@@ -11,7 +11,7 @@ use Rattle.block.specs.Block.{cost}
 use lib.ListN.{length, length-replicate}
 use Rattle.pair.specs.Rising.{above}
 use Rattle.card.specs.Layout.{blockSize, live}
-use Rattle.card.proofs.Facts.{Facts, facts}
+use Rattle.card.proofs.Facts.{facts}
 use Rattle.batch.specs.Batch.{updates, withdrawn, withAdded}
 use Rattle.batch.proofs.InOrder.{inOrder}
 use Rattle.batch.proofs.Search.{falls-drop}

@@ -1,6 +1,5 @@
 -- `update::due::lesser` meets its contract.
 use borrow.Author.Tests.{eq-eqb, ne-eqb, le-leb, lt-leb}
-use borrow.Author.Needs.{needs}
 use Rattle.update.proofs.due.lesser.Statement.{statement}
 use Rattle.update.proofs.due.lesser.Tie as tie
 

@@ -2,7 +2,6 @@
 use Rattle.update.specs.Old.{pending}
 use lib.ListN.{length}
 use Rattle.update.proofs.Skipping.{Skips, skips-start, skips-turn, skips-less, skips-end}
-use borrow.Author.Needs.{needs}
 use Rattle.update.proofs.old.skip.Statement.{statement}
 use Rattle.update.proofs.old.skip.Tie as tie
 

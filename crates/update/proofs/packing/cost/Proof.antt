@@ -1,6 +1,5 @@
 -- `update::packing::cost` meets its contract.
 use borrow.Author.Tests.{eq-eqb, ne-eqb}
-use borrow.Author.Needs.{needs}
 use Rattle.update.proofs.packing.cost.Statement.{statement}
 use Rattle.update.proofs.packing.cost.Tie as tie
 
