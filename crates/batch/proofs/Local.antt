@@ -3,8 +3,8 @@ use Prim.Native.Nat.{ℕ}
 use mathlib.Core.Path.{_≡_, refl, sym, ap, _∙_}
 use mathlib.Core.Bool.{Bool, true, false, _&&_, _||_, not}
 use mathlib.Core.List.{List}
-use lib.Dec.{ltb, leb}
-use Rattle.pair.specs.Rising.{keep, above, atMost}
+use lib.Dec.{ltb}
+use Rattle.pair.specs.Rising.{keep, above}
 use Rattle.pair.proofs.Rising.{rises, rises-keep}
 use Rattle.pair.proofs.Sets.{has, has-keep, rises-ext}
 use Rattle.batch.specs.Batch.{Update, applied}
@@ -35,8 +35,3 @@ pub above-applied : (k : ℕ) (us : List Update) (s t : List ℕ) → rises s �
     → above k (applied us s) ≡ above k (applied us t)
 unfolding above
 above-applied k us s t r q e = applied-local (ltb k) us s t r q e
-
-pub atMost-applied : (k : ℕ) (us : List Update) (s t : List ℕ) → rises s ≡ true → rises t ≡ true → atMost k s ≡ atMost k t
-    → atMost k (applied us s) ≡ atMost k (applied us t)
-unfolding atMost
-atMost-applied k us s t r q e = applied-local (λ x. leb x k) us s t r q e

@@ -4,10 +4,10 @@ use native.Mathlib.Omega.{arith}
 use mathlib.Core.Path.{_≡_, _∙_, ap}
 use mathlib.Core.Bool.{Bool, true, false, cond}
 use mathlib.Core.List.{List, [], _∷_, _++_}
-use lib.ListN.{length, take, drop, length-drop, take-append-drop, drop-of-length-le}
+use lib.ListN.{length, take, drop, length-drop}
 use lib.Seq.{length-take-le, take-all, take-append-add}
 use lib.Dec.{eqb}
-use borrow.Author.Tests.{ltb-true, ltb-false, lt-ltb, le-leb}
+use borrow.Author.Tests.{ltb-true, ltb-false, le-leb}
 use Rattle.pair.specs.Rank.{term, Words, Proper}
 use Rattle.pair.specs.Rising.{Each, above, risingFrom, last}
 use Rattle.pair.proofs.Each.{Each-take}
@@ -33,11 +33,6 @@ pub length-due : (b : ℕ) (r : List ℕ) → length (due b r) ≡ fitting b 0 r
 unfolding due
 length-due b r = length-take-le (fitting b 0 r) r (fitting-length b 0 r)
 
--- what remains is the due pairs and the pairs beyond them
-pub due-rest : (b : ℕ) (r : List ℕ) → due b r ++ drop (fitting b 0 r) r ≡ r
-unfolding due
-due-rest b r = take-append-drop (fitting b 0 r) r
-
 -- where a pair remains, a pair is due
 pub fitting-some : (b : ℕ) (r : List ℕ) → 3 ≤ b → 0 < length r → 0 < fitting b 0 r
 unfolding fitting
@@ -60,16 +55,7 @@ pub goesOn-rest : (b : ℕ) (r : List ℕ) → goesOn b r ≡ true → 0 < lengt
 unfolding goesOn
 goesOn-rest b r g = rw (length-drop (fitting b 0 r) r) (omega (arith, ltb-true (fitting b 0 r) (length r) g))
 
-pub rest-goesOn : (b : ℕ) (r : List ℕ) → 0 < length (drop (fitting b 0 r) r) → goesOn b r ≡ true
-unfolding goesOn
-rest-goesOn b r l =
-    lt-ltb (fitting b 0 r) (length r) (let h : 0 < length r - fitting b 0 r = rw (length-drop (fitting b 0 r) r) at l in omega arith)
-
--- without such pairs nothing is left beyond, and everything is due
-pub goesOn-none : (b : ℕ) (r : List ℕ) → goesOn b r ≡ false → drop (fitting b 0 r) r ≡ []
-unfolding goesOn
-goesOn-none b r g = drop-of-length-le r (ltb-false (fitting b 0 r) (length r) g)
-
+-- without such pairs everything is due
 pub due-whole : (b : ℕ) (r : List ℕ) → goesOn b r ≡ false → due b r ≡ r
 unfolding goesOn due
 due-whole b r g = take-all (fitting b 0 r) r (ltb-false (fitting b 0 r) (length r) g)

@@ -7,3 +7,4 @@ pub mod Scanning
 pub mod Seeking
 pub mod Size
 pub mod Walk
+pub mod Wanting

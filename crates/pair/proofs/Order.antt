@@ -53,7 +53,3 @@ ltb-rank t p u q h k = go (compared t u)
 -- the rank of a term and a position of at least 1 is a pair's
 pub proper-rank : (t p : ℕ) → 1 ≤ t → t < 4294967296 → 1 ≤ p → p < 4294967296 → Proper (rank t p)
 proper-rank t p a b c d = omega arith
-
--- a pair's rank is above 0
-pub proper-positive : (k : ℕ) → Proper k → 0 < k
-proper-positive k h = omega arith

@@ -1,13 +1,13 @@
 -- The parts of a set above a number, up to it, and between two numbers.
 use Prim.Native.Nat.{ℕ, _≤_, _<_}
 use mathlib.Core.Path.{_≡_, refl, sym, ap, _∙_}
-use mathlib.Core.Bool.{Bool, true, false, cond, _&&_}
+use mathlib.Core.Bool.{Bool, true, false, cond}
 use mathlib.Core.List.{List, [], _∷_, _++_, append-nil}
 use lib.ListN.{take, drop, take-append-drop}
 use lib.Dec.{ltb, leb}
 use native.Mathlib.Omega.{arith}
 use borrow.Author.Tests.{ltb-true, ltb-false, leb-true, leb-false, lt-ltb, le-ltb, le-leb, lt-leb}
-use Rattle.pair.specs.Rising.{Each, keep, above, atMost, within, risingFrom, last}
+use Rattle.pair.specs.Rising.{Each, keep, above, atMost, risingFrom, last}
 use Rattle.pair.proofs.Rising.{rising-head, rising-tail, rising-take, rising-rest, rising-keep, rising-join, rising-weaker, rises, rises-from, rises-tail, rises-keep, rises-rising}
 use Rattle.pair.proofs.Sets.{has-low, has-high, Each-members}
 use Rattle.pair.proofs.Keep.{keep-append, keep-all, keep-none, keep-before, keep-after, keep-swap}
@@ -17,10 +17,6 @@ use Rattle.pair.proofs.Each.{Each-imply, Each-keep, Each-kept, Each-las
 pub rising-atMost : (xs : List ℕ) (j k : ℕ) → risingFrom j xs ≡ true → risingFrom j (atMost k xs) ≡ true
 unfolding atMost
 rising-atMost xs j k r = rising-keep (λ x. leb x k) xs j r
-
-pub rising-within : (xs : List ℕ) (j a z : ℕ) → risingFrom j xs ≡ true → risingFrom j (within a z xs) ≡ true
-unfolding within
-rising-within xs j a z r = rising-keep (λ x. leb a x && leb x z) xs j r
 
 -- parts of two lists in a row
 pub above-append : (k : ℕ) (xs ys : List ℕ) → above k (xs ++ ys) ≡ above k xs ++ above k ys
@@ -205,7 +201,3 @@ rises-next xs k x rest r e =
     let l : k < x = rising-head x rest k s in
     let q : k ≤ x = omega arith in
     sym (above-further k x xs q) ∙ rw e (above-first x rest k s)
-
--- the same for a list that rises from a given start
-pub above-next : (xs : List ℕ) (j k x : ℕ) (rest : List ℕ) → risingFrom j xs ≡ true → above k xs ≡ x ∷ rest → above x xs ≡ rest
-above-next xs j k x rest r e = rises-next xs k x rest (rises-from xs j r) e

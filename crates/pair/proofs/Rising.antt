@@ -73,10 +73,6 @@ rising-take n xs k r = rising-first (take n xs) (drop n xs) k (rw (take-append-d
 pub rising-rest : (n : ℕ) (xs : List ℕ) (k : ℕ) → risingFrom k xs ≡ true → risingFrom (last k (take n xs)) (drop n xs) ≡ true
 rising-rest n xs k r = rising-second (take n xs) (drop n xs) k (rw (take-append-drop n xs) r)
 
-pub rising-drop : (n : ℕ) (xs : List ℕ) (k : ℕ) → risingFrom k xs ≡ true → risingFrom k (drop n xs) ≡ true
-rising-drop n xs k r =
-    rising-weaker (drop n xs) k (last k (take n xs)) (rising-last (take n xs) k (rising-take n xs k r)) (rising-rest n xs k r)
-
 -- so does what a test keeps
 pub rising-keep : (f : ℕ → Bool) (xs : List ℕ) (k : ℕ) → risingFrom k xs ≡ true → risingFrom k (keep f xs) ≡ true
 unfolding keep risingFrom

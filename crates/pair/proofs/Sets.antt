@@ -10,8 +10,6 @@ use borrow.Author.Tests.{ltb-true, eqb-true, lt-ltb, eq-eqb}
 use Rattle.pair.specs.Rising.{Each, keep, risingFrom, insert, last, any}
 use Rattle.pair.proofs.Tests.{and-left, and-right, and-both, or-cases, or-intro, contradiction, test-ext}
 use Rattle.pair.proofs.Rising.{rising-head, rising-tail, rising-last, rises, rises-from, rises-tail}
-use Rattle.pair.proofs.Each.{Each-last-cons}
-use Rattle.pair.proofs.Keep.{keep-agree}
 
 -- the number is in the list
 unfoldable pub has : ℕ → List ℕ → Bool
@@ -155,14 +153,6 @@ pub Each-members : (P : ℕ → Type 0) (xs : List ℕ) → ((x : ℕ) → has x
 unfolding has any
 Each-members P [] f = tt
 Each-members P (y ∷ ys) f = (f y (has-head y ys), Each-members P ys (λ x h. f x (or-intro (eqb x y) (has x ys) (inr h))))
-
--- tests that agree on the members keep the same
-pub keep-members : (f g : ℕ → Bool) (xs : List ℕ) → ((x : ℕ) → has x xs ≡ true → f x ≡ g x) → keep f xs ≡ keep g xs
-keep-members f g xs h = keep-agree f g xs (Each-members (λ x. f x ≡ g x) xs h)
-
--- the last element of a list that has one is a member
-pub has-last : (x : ℕ) (xs : List ℕ) (d : ℕ) → has (last d (x ∷ xs)) (x ∷ xs) ≡ true
-has-last x xs d = Each-last-cons (λ y. has y (x ∷ xs) ≡ true) x xs d (Each-members (λ y. has y (x ∷ xs) ≡ true) (x ∷ xs) (λ y h. h))
 
 -- every element of a list that rises from k is above k
 pub rising-Each : (xs : List ℕ) (k : ℕ) → risingFrom k xs ≡ true → Each (λ x. k < x) xs

@@ -1,11 +1,11 @@
 -- Laws of tests: conjunctions, disjunctions, and tests that say the same.
 use Prim.Native.Nat.{ℕ, _≤_, _<_}
 use mathlib.Core.Path.{_≡_, refl, sym}
-use mathlib.Core.Bool.{Bool, true, false, cond, _&&_, _||_, not, true≢false, false≢true}
+use mathlib.Core.Bool.{Bool, true, false, cond, _&&_, _||_, true≢false, false≢true}
 use mathlib.Core.Logic.{_⊎_, inl, inr}
-use lib.Dec.{ltb, leb, eqb}
+use lib.Dec.{ltb}
 use native.Mathlib.Omega.{arith}
-use borrow.Author.Tests.{ltb-true, ltb-false, leb-true, leb-false, eqb-true, lt-ltb, le-ltb, eq-eqb}
+use borrow.Author.Tests.{ltb-true, ltb-false, lt-ltb}
 
 -- a conjunction holds exactly where both sides do
 pub and-left : (a b : Bool) → (a && b) ≡ true → a ≡ true
@@ -59,11 +59,6 @@ test-ext true b f g = sym (f refl)
 test-ext false true f g = g refl
 test-ext false false f g = refl
 
--- a choice between equals
-pub cond-same {ℓ} : {A : Type ℓ} (t : Bool) (x : A) → cond t x x ≡ x
-cond-same true x = refl
-cond-same false x = refl
-
 -- what holds of both sides of a choice holds of the choice
 pub cond-both {ℓ} : {A : Type ℓ} (P : A → Type 0) (t : Bool) (x y : A) → (t ≡ true → P x) → (t ≡ false → P y) → P (cond t x y)
 cond-both P true x y f g = f refl
@@ -72,19 +67,6 @@ cond-both P false x y f g = g refl
 -- the tests of two pairs of numbers agree where the facts do
 pub ltb-agree : (a b c d : ℕ) → (a < b → c < d) → (c < d → a < b) → ltb a b ≡ ltb c d
 ltb-agree a b c d f g = test-ext (ltb a b) (ltb c d) (λ e. lt-ltb c d (f (ltb-true a b e))) (λ e. lt-ltb a b (g (ltb-true c d e)))
-
--- at most is not above
-pub leb-not-ltb : (a b : ℕ) → leb a b ≡ not (ltb b a)
-leb-not-ltb a b = go (leb a b) refl
-  where
-    go : (t : Bool) → leb a b ≡ t → t ≡ not (ltb b a)
-    go true e = rw (le-ltb b a (leb-true a b e))
-    go false e = rw (lt-ltb b a (leb-false a b e))
-
--- equality is tested either way round
-pub eqb-swap : (a b : ℕ) → eqb a b ≡ eqb b a
-eqb-swap a b =
-    test-ext (eqb a b) (eqb b a) (λ e. eq-eqb b a (sym (eqb-true a b e))) (λ e. eq-eqb a b (sym (eqb-true b a e)))
 
 -- the first is less, they are equal, or the second is less
 pub compared : (a b : ℕ) → (a < b) ⊎ ((a ≡ b) ⊎ (b < a))

@@ -10,7 +10,7 @@ use borrow.Author.Tests.{le-leb, ne-eqb}
 use Rattle.pair.specs.Rank.{term, Proper}
 use Rattle.pair.specs.Rising.{Each}
 use Rattle.block.specs.Block.{cost, fitting, goesOn}
-use Rattle.block.proofs.Due.{goesOn-some, goesOn-rest, goesOn-none}
+use Rattle.block.proofs.Due.{goesOn-some, goesOn-rest}
 use Rattle.update.specs.Pass.{blocksFrom, blocks}
 
 -- a full block takes no further pair
@@ -56,6 +56,3 @@ blocks-some b (k ∷ ks) l = rw (full 0 k) (omega arith)
 pub blocks-goesOn : (b : ℕ) (r : List ℕ) → 3 ≤ b → Each Proper r → goesOn b r ≡ true → 2 ≤ blocks b r
 blocks-goesOn b r h p g =
     rw (blocks-next b r h (goesOn-some b r g) p) (omega (arith, blocks-some b (drop (fitting b 0 r) r) (goesOn-rest b r g)))
-
-pub blocks-ends : (b : ℕ) (r : List ℕ) → 3 ≤ b → 0 < length r → Each Proper r → goesOn b r ≡ false → blocks b r ≡ 1
-blocks-ends b r h l p g = rw (blocks-next b r h l p, goesOn-none b r g, blocks-none b)

@@ -1,5 +1,5 @@
 -- `block::wanted::entry_part` meets its contract: the wanted ones of rising positions lie between two counts.
-use Rattle.block.proofs.Seeking.{entry-counts, entry-empty}
+use Rattle.block.proofs.Wanting.{entry-counts, entry-empty}
 use borrow.Author.Needs.{needs}
 use Rattle.block.proofs.wanted.entry_part.Statement.{statement}
 use Rattle.block.proofs.wanted.entry_part.Tie as tie
