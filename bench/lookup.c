@@ -116,7 +116,7 @@ static void show(const char *what, struct times best) {
         double lookup = best.lookup - best.judge;
         double read = best.read - best.judge;
         double ns = 1e9 / best.found;
-        printf(" %9.3f %9.3f %9.3f %7.2f %7.2f", lookup * ns, read * ns, best.plain * ns, lookup / best.plain,
+        printf(" %9.3f %9.3f %9.3f %8.2f %8.2f", lookup * ns, read * ns, best.plain * ns, lookup / best.plain,
                read / best.plain);
     }
     putchar('\n');
@@ -152,8 +152,8 @@ int main(void) {
                  {"a rare one", last - 2},
                  {"one that is not there", GI_HIGHEST}};
     printf("lookup, 1,023 places live, ms a call (best of %d); ns a position beyond the judge\n", CALLS);
-    printf("%-22s %9s %7s %9s %9s %7s %9s %9s %9s %7s %7s\n", "term", "positions", "blocks", "lookup", "judge", "ratio",
-           "lookup ns", "reader ns", "plain C", "ratio", "ratio");
+    printf("%-22s %9s %7s %9s %9s %7s %9s %9s %9s %8s %8s\n", "term", "positions", "blocks", "lookup", "judge", "ratio",
+           "lookup ns", "reader ns", "plain C", "lookup/C", "reader/C");
     for (size_t i = 0; i < sizeof terms / sizeof *terms; i++)
         show(terms[i].what, time_term(card, terms[i].term, answer, read_answer, plain_answer));
     fill_one_term(card);
