@@ -12,7 +12,7 @@ use borrow.Author.Tests.{ltb-true, ltb-false, le-leb, lt-leb, ne-eqb, le-ltb, lt
 use Rattle.pair.specs.Rank.{rank, term}
 use Rattle.pair.proofs.Tests.{and-left, and-right, or-left, or-right, or-both, and-both, not-holds}
 use Rattle.batch.specs.Batch.{Update, updates, anyUpdate, removes, adds, withdrawn, falls}
-use Rattle.batch.specs.Search.{addsAbove, firstAdded, beforeAdded, nextAddition, beforeReaching, firstReaching}
+use Rattle.batch.specs.Search.{startingTo, addsAbove, firstAdded, beforeAdded, nextAddition, beforeReaching, firstReaching}
 use Rattle.batch.proofs.Merge.{leastAdded, leastAdded-first, earlier}
 use Rattle.batch.proofs.InOrder.{EachUpdate, EachUpdate-imply, Formed}
 use Rattle.batch.proofs.Records.{recordAt, updates-at}
@@ -148,61 +148,74 @@ EachUpdate-drop P zero us a = a
 EachUpdate-drop P (suc n) [] a = tt
 EachUpdate-drop P (suc n) (u ∷ us) a = EachUpdate-drop P n us (a .1)
 
--- the walk over the records of a term: what they do to the pair is what the flags say of those read, or what the rest does
+-- the walk over the records that start up to a pair: what they do to it is what the flags say of those read, or what the rest does
 pub record Walks (b : List ℕ) (start x : ℕ) (removed added : Bool) (n : ℕ) : Type 0 where
-  pub ordered : falls 0 (drop start (updates b)) ≡ false → falls 0 (drop n (updates b)) ≡ false
-  pub taken : anyUpdate (removes x) (drop start (updates b)) ≡ (removed || anyUpdate (removes x) (drop n (updates b)))
-  pub given : anyUpdate (adds x) (drop start (updates b)) ≡ (added || anyUpdate (adds x) (drop n (updates b)))
+  pub taken : anyUpdate (removes x) (startingTo x (drop start (updates b))) ≡ (removed || anyUpdate (removes x) (startingTo x (drop n (updates b))))
+  pub given : anyUpdate (adds x) (startingTo x (drop start (updates b))) ≡ (added || anyUpdate (adds x) (startingTo x (drop n (updates b))))
 
 pub walks-start : (b : List ℕ) (start x : ℕ) → Walks b start x false false start
-walks-start b start x = record { ordered = λ e. e; taken = refl; given = refl }
+walks-start b start x = record { taken = refl; given = refl }
 
 pub walks-turn :
     {b : List ℕ} {start x : ℕ} {removed added : Bool} {n : ℕ} → Walks b start x removed added n → n < length b / 4 → lowAt b (n * 4) ≤ x →
     Walks b start x (removed || (eqb (getD b (n * 4) 0) 2 && leb x (highAt b (n * 4)))) (added || (eqb (getD b (n * 4) 0) 1 && eqb x (lowAt b (n * 4)))) (n + 1)
-unfolding anyUpdate removes adds falls
+unfolding anyUpdate removes adds startingTo
 walks-turn {b} {start} {x} {removed} {added} {n} s h l =
     record {
-      ordered = λ o. falls-lower (drop (n + 1) (updates b)) (lowAt b (n * 4)) 0 (omega arith) (or-right (ltb (lowAt b (n * 4)) 0) _ (rw (update-at b n h) at (s .ordered o)));
-      taken = s .taken ∙ rw (update-at b n h, le-leb (lowAt b (n * 4)) x l, and-true) (sym (or-assoc removed _ _));
-      given = s .given ∙ rw (update-at b n h) (sym (or-assoc added _ _));
+      taken = s .taken ∙ rw (update-at b n h, le-ltb x (lowAt b (n * 4)) l, le-leb (lowAt b (n * 4)) x l, and-true) (sym (or-assoc removed _ _));
+      given = s .given ∙ rw (update-at b n h, le-ltb x (lowAt b (n * 4)) l) (sym (or-assoc added _ _));
     }
 
--- updates above a pair do nothing to it
-above-removes : (us : List Update) (x y : ℕ) → x < y → falls y us ≡ false → anyUpdate (removes x) us ≡ false
-unfolding anyUpdate removes falls
-above-removes [] x y l e = refl
-above-removes (u ∷ us) x y l e =
-    let here = rank (u .term) (u .from) in
-    let h : y ≤ here = ltb-false here y (or-left (ltb here y) (falls here us) e) in
-    rw (lt-leb here x (omega arith), above-removes us x here (omega arith) (or-right (ltb here y) (falls here us) e), and-false)
-
-above-adds : (us : List Update) (x y : ℕ) → x < y → falls y us ≡ false → anyUpdate (adds x) us ≡ false
-unfolding anyUpdate adds falls
-above-adds [] x y l e = refl
-above-adds (u ∷ us) x y l e =
-    let here = rank (u .term) (u .from) in
-    let h : y ≤ here = ltb-false here y (or-left (ltb here y) (falls here us) e) in
-    rw (ne-eqb x here (omega arith), above-adds us x here (omega arith) (or-right (ltb here y) (falls here us) e), and-false)
-
 walks-over :
-    {b : List ℕ} {start x : ℕ} {removed added : Bool} {n : ℕ} → Walks b start x removed added n → anyUpdate (removes x) (drop n (updates b)) ≡ false →
-    anyUpdate (adds x) (drop n (updates b)) ≡ false → (removed && not added) ≡ withdrawn (drop start (updates b)) x
-unfolding withdrawn
-walks-over {b} {start} {x} {removed} {added} {n} s e f = sym (rw (s .taken, s .given, e, f, or-false removed, or-false added))
+    {b : List ℕ} {start x : ℕ} {removed added : Bool} {n : ℕ} → Walks b start x removed added n → startingTo x (drop n (updates b)) ≡ [] →
+    (removed && not added) ≡ withdrawn (startingTo x (drop start (updates b))) x
+unfolding withdrawn anyUpdate
+walks-over {b} {start} {x} {removed} {added} {n} s e = sym (rw (s .taken, s .given, e, or-false removed, or-false added))
 
 pub walks-stop :
     {b : List ℕ} {start x : ℕ} {removed added : Bool} {n : ℕ} → Walks b start x removed added n → n < length b / 4 → x < lowAt b (n * 4) →
-    falls 0 (drop start (updates b)) ≡ false → (removed && not added) ≡ withdrawn (drop start (updates b)) x
-walks-stop {b} {start} {x} {removed} {added} {n} s h l o = walks-over s (above-removes (drop n (updates b)) x (lowAt b (n * 4)) l from) (above-adds (drop n (updates b)) x (lowAt b (n * 4)) l from)
-  where
-    from : falls (lowAt b (n * 4)) (drop n (updates b)) ≡ false
-    from = unfold falls in rw (update-at b n h) (or-both _ _ (le-ltb (lowAt b (n * 4)) (lowAt b (n * 4)) (omega arith)) (or-right (ltb (lowAt b (n * 4)) 0) _ (rw (update-at b n h) at (s .ordered o))))
+    (removed && not added) ≡ withdrawn (startingTo x (drop start (updates b))) x
+unfolding startingTo
+walks-stop {b} {start} {x} {removed} {added} {n} s h l = walks-over s (rw (update-at b n h, lt-ltb x (lowAt b (n * 4)) l))
 
 pub walks-end :
-    {b : List ℕ} {start x : ℕ} {removed added : Bool} {n : ℕ} → Walks b start x removed added n → length b / 4 ≤ n → (removed && not added) ≡ withdrawn (drop start (updates b)) x
-unfolding anyUpdate
-walks-end {b} {start} {x} {removed} {added} {n} s h = walks-over s (rw (update-end b n h)) (rw (update-end b n h))
+    {b : List ℕ} {start x : ℕ} {removed added : Bool} {n : ℕ} → Walks b start x removed added n → length b / 4 ≤ n →
+    (removed && not added) ≡ withdrawn (startingTo x (drop start (updates b))) x
+unfolding startingTo
+walks-end {b} {start} {x} {removed} {added} {n} s h = walks-over s (rw (update-end b n h))
+
+-- in a batch in order the updates above a pair do nothing to it
+module _ (f : Update → Bool) (x : ℕ) (h : (u : Update) → x < rank (u .term) (u .from) → f u ≡ false) where
+  any-beyond : (us : List Update) (k : ℕ) → x < k → falls k us ≡ false → anyUpdate f us ≡ false
+  unfolding anyUpdate falls
+  any-beyond [] k l e = refl
+  any-beyond (u ∷ us) k l e =
+      let here = rank (u .term) (u .from) in
+      let m : k ≤ here = ltb-false here k (or-left (ltb here k) (falls here us) e) in
+      rw (h u (omega arith)) (any-beyond us here (omega arith) (or-right (ltb here k) (falls here us) e))
+
+  any-starting : (us : List Update) (k : ℕ) → falls k us ≡ false → anyUpdate f (startingTo x us) ≡ anyUpdate f us
+  unfolding anyUpdate startingTo falls
+  any-starting [] k e = refl
+  any-starting (u ∷ us) k e = go (ltb x here) refl (any-starting us here o)
+    where
+      here : ℕ
+      here = rank (u .term) (u .from)
+
+      o : falls here us ≡ false
+      o = or-right (ltb here k) (falls here us) e
+
+      go : (t : Bool) → ltb x here ≡ t → anyUpdate f (startingTo x us) ≡ anyUpdate f us → anyUpdate f (cond t [] (u ∷ startingTo x us)) ≡ (f u || anyUpdate f us)
+      go true t ih = sym (rw (h u (ltb-true x here t)) (any-beyond us here (ltb-true x here t) o))
+      go false t ih = rw ih
+
+pub withdrawn-starting : (us : List Update) (x : ℕ) → falls 0 us ≡ false → withdrawn (startingTo x us) x ≡ withdrawn us x
+unfolding withdrawn removes adds
+withdrawn-starting us x e =
+    rw (
+      any-starting (removes x) x (λ u l. rw (lt-leb (rank (u .term) (u .from)) x l, and-false (eqb (u .kind) 2))) us 0 e,
+      any-starting (adds x) x (λ u l. rw (ne-eqb x (rank (u .term) (u .from)) (λ q. omega arith)) (and-false (eqb (u .kind) 1))) us 0 e,
+    )
 
 -- in a batch in order the first addition above k is the least
 pub firstAdded-least : (us : List Update) (x k : ℕ) → falls x us ≡ false → firstAdded k us ≡ leastAdded k us

@@ -41,3 +41,8 @@ beforeReaching x (u ∷ us) = cond (leb x (rank (u .term) (u .to))) 0 (suc (befo
 -- the first record from n on that reaches to x
 unfoldable pub firstReaching : List ℕ → ℕ → ℕ → ℕ
 firstReaching b n x = n + beforeReaching x (drop n (updates b))
+
+-- the updates up to the first that starts above x: in a batch in order, all that can do anything to x
+unfoldable pub startingTo : ℕ → List Update → List Update
+startingTo x [] = []
+startingTo x (u ∷ us) = cond (ltb x (rank (u .term) (u .from))) [] (u ∷ startingTo x us)

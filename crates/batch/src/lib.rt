@@ -1,10 +1,8 @@
 // A batch of updates: records of four words, kind, term, from and to.
 ghost use mathlib.Core.Path.{_≡_};
-ghost use mathlib.Core.Bool.{false};
 ghost use lib.ListN.{drop};
-ghost use Rattle.batch.specs.Batch.{illFormed, batchNumber};
-ghost use Rattle.batch.specs.Batch.{updates, withdrawn, falls};
-ghost use Rattle.batch.specs.Search.{firstReaching, nextAddition};
+ghost use Rattle.batch.specs.Batch.{updates, withdrawn, illFormed, batchNumber};
+ghost use Rattle.batch.specs.Search.{firstReaching, nextAddition, startingTo};
 use pair::Pair;
 
 // The words of a record, and the most words of a batch: 4,096 records.
@@ -118,10 +116,9 @@ pub fn first_reaching(batch: &[u32], from: usize, rank: u64) -> usize
     n
 }
 
-// Whether the records from a number on take the pair away, where they are in order: they remove it and do not add it. Reads no record beyond
-// the pair.
+// Whether the records from a number on, up to the first that starts beyond the pair, take the pair away: they remove it and do not add it.
 pub fn withdrawn(batch: &[u32], start: usize, rank: u64) -> bool
-    ensures { λ r. ⌜ (falls 0 (drop start (updates (now (batch .entry)))) ≡ false → r ≡ withdrawn (drop start (updates (now (batch .entry)))) rank) ⌝ }
+    ensures { λ r. ⌜ r ≡ withdrawn (startingTo rank (drop start (updates (now (batch .entry))))) rank ⌝ }
 {
     let mut removed = false;
     let mut added = false;

@@ -16,7 +16,8 @@ pub struct BlockScan {
     pub last: u64,
 }
 
-const UNFORMED: BlockScan = BlockScan {
+// What a scan tells of words that are no live block.
+pub const UNFORMED: BlockScan = BlockScan {
     formed: false,
     first: 0,
     last: 0,

@@ -12,7 +12,7 @@ pub struct Part {
 }
 
 // The empty part.
-pub const NOTHING: Part = Part { start: 0, len: 0 };
+const NOTHING: Part = Part { start: 0, len: 0 };
 
 // How many of the rising positions are at most the bound.
 fn up_to(positions: &[u32], bound: u32) -> usize

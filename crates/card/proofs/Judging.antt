@@ -17,8 +17,8 @@ use Rattle.block.specs.declared.BlockScan.{BlockScan}
 use Rattle.block.proofs.Reading.{formed-rising, formed-some}
 use Rattle.card.proofs.Live.{place-words}
 use Rattle.card.specs.Layout.{oldStart, oldLength, oldPlaces, placeCount, blockSize, entryWidth, placeAt, firstPair, place, around, pairsAt}
-use Rattle.card.specs.Sound.{blocksSound, firstReaches}
-use Rattle.card.specs.Scan.{liveBlock, blockScanned, segmentSound, segmentScanned}
+use Rattle.card.specs.Sound.{liveBlock, blocksSound, firstReaches}
+use Rattle.card.specs.Scan.{blockScanned, segmentSound, segmentScanned}
 
 -- a test beside a value that stands only where the block is live
 tested : (f : Bool) (t : ℕ → Bool) (g : ℕ) → (f && t (cond f g 0)) ≡ (f && t g)

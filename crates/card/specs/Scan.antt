@@ -4,13 +4,12 @@ use mathlib.Core.Path.{_≡_}
 use mathlib.Core.Bool.{Bool, cond, _&&_}
 use mathlib.Core.List.{List}
 use lib.ListN.{length, getD}
-use lib.Dec.{eqb}
 use Rattle.pair.specs.Rising.{risingFrom, last}
 use Rattle.block.specs.Block.{pairs, formed}
 use Rattle.block.specs.declared.BlockScan.{BlockScan}
 use Rattle.card.specs.declared.SegmentScan.{SegmentScan}
-use Rattle.card.specs.Layout.{blockSize, placeCount, entryWidth, cardLength, firstPair, place, pairsAt}
-use Rattle.card.specs.Sound.{blocksSound}
+use Rattle.card.specs.Layout.{blockSize, placeCount, entryWidth, cardLength, place, pairsAt}
+use Rattle.card.specs.Sound.{liveBlock, blocksSound}
 
 -- the block size and the count of places are within their limits, and the card has the length that they give
 pub record Shaped (c : List ℕ) : Type 0 where
@@ -18,10 +17,6 @@ pub record Shaped (c : List ℕ) : Type 0 where
   pub countLow : 2 ≤ placeCount c
   pub countHigh : placeCount c ≤ 1024
   pub long : length c ≡ cardLength entryWidth (blockSize c) (placeCount c)
-
--- the block at a place is a live block, and its map entry is its first pair
-abbrev pub liveBlock : List ℕ → ℕ → Bool
-liveBlock c i = formed (place c i) && eqb (firstPair c i) (getD (pairs (place c i)) 0 0)
 
 unfoldable pub blockScanned : List ℕ → ℕ → BlockScan
 blockScanned c i =

@@ -8,9 +8,21 @@ ghost use Rattle.card.specs.Layout.{placeCount, oldStart, oldLength, ent
 ghost use Rattle.card.specs.Sound.{firstReaches, configurationConditions, judged};
 ghost use Rattle.card.specs.Scan.{Shaped, blockScanned, segmentSound, segmentScanned};
 use block::BlockScan;
+use block::UNFORMED;
 use pair::Pair;
 
 const FORMAT: u32 = 1;
+
+// The numbers of a card that is not sound, and of a formatter's bad sizes.
+const WRONG_LENGTH: u32 = 1;
+
+const UNKNOWN_FORMAT: u32 = 2;
+
+const BAD_CONFIGURATION: u32 = 3;
+
+const BAD_BLOCKS: u32 = 4;
+
+const OUTSIDE_LIMITS: u32 = 5;
 
 // The words before the map.
 pub const CONFIGURATION_WORDS: usize = 8;
@@ -27,7 +39,7 @@ const PLACE_COUNT_LEAST: u32 = 2;
 const PLACE_COUNT_MOST: u32 = 1024;
 
 // Whether a block size and a count of places are within their limits.
-pub fn in_limits(b: u32, n: u32) -> bool
+fn in_limits(b: u32, n: u32) -> bool
     ensures { λ r. ⌜ r ≡ inLimits b n ⌝ }
 {
     (BLOCK_SIZE_LEAST <= b)
@@ -49,10 +61,10 @@ pub fn format(card: &mut [u32], b: u32, n: u32) -> u32
     ensures { λ r. ⌜ (r ≡ formatNumber (now (card .entry)) b n) × (now (card .exit) ≡ formatted (now (card .entry)) b n) ⌝ }
 {
     if !in_limits(b, n) {
-        return 5;
+        return OUTSIDE_LIMITS;
     }
     if card.len() != card_length(b, n) {
-        return 1;
+        return WRONG_LENGTH;
     }
     card[0] = FORMAT;
     card[1] = b;
@@ -80,29 +92,29 @@ fn configuration_number(card: &[u32]) -> u32
     ensures { λ r. ⌜ r ≡ firstOf (configurationConditions (now (card .entry))) ⌝ }
 {
     if card.len() < CONFIGURATION_WORDS {
-        return 1;
+        return WRONG_LENGTH;
     }
     if card[0] != FORMAT {
-        return 2;
+        return UNKNOWN_FORMAT;
     }
     let b = card[1];
     let n = card[2];
     if !in_limits(b, n) {
-        return 3;
+        return BAD_CONFIGURATION;
     }
     if card.len() != card_length(b, n) {
-        return 1;
+        return WRONG_LENGTH;
     }
     if n <= card[3] {
-        return 3;
+        return BAD_CONFIGURATION;
     }
     let live = card[4] as u64 + card[5] as u64;
     let most = (n - 1) as u64;
     if most < live {
-        return 3;
+        return BAD_CONFIGURATION;
     }
     if !boundary_agrees(card[5], card[6], card[7]) {
-        return 3;
+        return BAD_CONFIGURATION;
     }
     0
 }
@@ -136,11 +148,7 @@ fn scan_place(card: &[u32], i: usize) -> BlockScan
     if block.formed & (mapped.rank() == block.first) {
         return block;
     }
-    BlockScan {
-        formed: false,
-        first: 0,
-        last: 0,
-    }
+    UNFORMED
 }
 
 // Scans len places from start, around the circle, whose pairs are to rise above the rank after.
@@ -199,10 +207,10 @@ pub fn judge(card: &[u32]) -> u32
     };
     let boundary = bound.rank();
     if !(new.sound & (new.last == boundary)) {
-        return 4;
+        return BAD_BLOCKS;
     }
     if !old_is_sound(card, boundary) {
-        return 4;
+        return BAD_BLOCKS;
     }
     0
 }

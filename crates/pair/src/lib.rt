@@ -4,7 +4,7 @@ ghost use Rattle.pair.specs.Bounds.{lowest, highest, isPair};
 ghost use Rattle.pair.specs.Rank.{rank};
 
 // Ranks of one term lie in one stretch of this many numbers.
-const TERM_STRETCH: u64 = 4_294_967_296;
+pub const TERM_STRETCH: u64 = 4_294_967_296;
 
 pub struct Pair {
     pub term: u32,

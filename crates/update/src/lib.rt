@@ -11,15 +11,13 @@ ghost use Rattle.update.specs.Answer.{numberOf, writeOf, freedOf, finish
 use card::CONFIGURATION_WORDS;
 use card::ENTRY_WIDTH;
 use due::Due;
+use pair::TERM_STRETCH;
 
 mod due;
 mod old;
 mod packing;
 
 const BLOCK_MOST: usize = 1024;
-
-// Ranks of one term lie in one stretch of this many numbers.
-const TERM_STRETCH: u64 = 4_294_967_296;
 
 // The number of a step whose configuration write would leave no place free.
 const CROWDED: u32 = 8;

@@ -3,9 +3,7 @@ ghost use mathlib.Core.Path.{_≡_};
 ghost use Rattle.block.specs.Block.{cost};
 ghost use Rattle.pair.specs.Rank.{term};
 ghost use Rattle.update.specs.Packing.{Puts, putWords, putPacking};
-
-// Ranks of one term lie in one stretch of this many numbers.
-const TERM_STRETCH: u64 = 4_294_967_296;
+use pair::TERM_STRETCH;
 
 // The words that a pair of a new term and one of the term in hand cost.
 const ENTRY_COST: usize = 3;

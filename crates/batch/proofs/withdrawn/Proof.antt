@@ -62,7 +62,7 @@ rank-requires-2 c κs = search needs
 returns : tie.Need-returns Inv-loop μ-loop
 returns c =
     let t = c .before .before .before .before .before .before .before in
-    λ o. walks-stop (t .before .loop .inv) (t .loop-test .taken) (rw (c .before .before .rank .ensures) at (c .if1 .taken)) o
+    walks-stop (t .before .loop .inv) (t .loop-test .taken) (rw (c .before .before .rank .ensures) at (c .if1 .taken))
 
 add-n : tie.Need-add-n Inv-loop μ-loop
 add-n c = search needs
@@ -77,7 +77,7 @@ loop-again c =
     (walks-turn (t .before .loop .inv) (t .loop-test .taken) (rw (c .before .before .rank .ensures) at (c .if1 .left)))
 
 returns-2 : tie.Need-returns-2 Inv-loop μ-loop
-returns-2 c = λ o. walks-end (c .before .loop .inv) (c .loop-test .left)
+returns-2 c = walks-end (c .before .loop .inv) (c .loop-test .left)
 
 pub withdrawn-spec : {M : Type 1} → statement M
 withdrawn-spec =

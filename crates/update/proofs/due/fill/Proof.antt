@@ -8,13 +8,13 @@ use denote.Ref.{now}
 use lib.Dec.{ltb}
 use Rattle.pair.specs.Rank.{term, Words}
 use Rattle.block.specs.Block.{cost}
-use lib.ListN.{length, length-replicate}
+use lib.ListN.{length, drop, length-replicate}
 use Rattle.pair.specs.Rising.{above}
 use Rattle.card.specs.Layout.{blockSize, live}
 use Rattle.card.proofs.Facts.{facts}
 use Rattle.batch.specs.Batch.{updates, withdrawn, withAdded}
 use Rattle.batch.proofs.InOrder.{inOrder}
-use Rattle.batch.proofs.Search.{falls-drop}
+use Rattle.batch.proofs.Search.{falls-drop, withdrawn-starting}
 use Rattle.update.proofs.Grown.{Remaining}
 use Rattle.update.proofs.Merging.{Merging, merging-start, Turn, turned-end, turned-less, turned-withdrawn, turned-full, turned-puts, turned}
 use Rattle.update.proofs.Next.{remaining}
@@ -59,7 +59,9 @@ withdraws : (c : tie.After-withdrawn Inv-loop μ-loop) → c .withdrawn .result 
 withdraws c =
     let s = S (c .before .before .before .before .before .before) in
     let b = now (s .args .batch) in
-    c .withdrawn .ensures (falls-drop (c .before .first-reaching .result) (updates b) 0 (inOrder b (s .pre .1 .0) .ordered))
+    let n = c .before .first-reaching .result in
+    c .withdrawn .ensures
+    ∙ withdrawn-starting (drop n (updates b)) (c .before .before .before .lesser .result) (falls-drop n (updates b) 0 (inOrder b (s .pre .1 .0) .ordered))
     ∙ rw (c .before .first-reaching .ensures) (turned-withdrawn (c .before .before .before .before .before .before .loop .inv) (turn (c .before .before .before)) (c .before .before .if1 .left))
 
 -- the test with the cost as the definition has it
