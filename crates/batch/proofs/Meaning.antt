@@ -1,7 +1,7 @@
 -- What a batch makes of a set: the set less everything removed, plus everything added.
 use Prim.Native.Nat.{ℕ, _<_}
 use mathlib.Core.Path.{_≡_, refl, sym, ap, _∙_}
-use mathlib.Core.Bool.{Bool, true, false, cond, _&&_, _||_, not, or-assoc, and-true}
+use mathlib.Core.Bool.{Bool, true, false, cond, _&&_, _||_, not, or-assoc, and-true, and-comm}
 use mathlib.Core.List.{List, [], _∷_}
 use mathlib.Core.Logic.{inl, inr}
 use lib.Dec.{eqb}
@@ -77,16 +77,10 @@ applied-sentence us s r =
     rest : List ℕ
     rest = keep (λ x. not (removed us x)) s
 
-    swap : (a b : Bool) → (a && b) ≡ (b && a)
-    swap true true = refl
-    swap true false = refl
-    swap false true = refl
-    swap false false = refl
-
     members : (x : ℕ) → has x (applied us s) ≡ has x (withAdded us rest)
     members x =
         has-applied x us s
-        ∙ sym (has-withAdded x us rest ∙ rw (has-keep x (λ y. not (removed us y)) s, swap (not (removed us x)) (has x s)))
+        ∙ sym (has-withAdded x us rest ∙ rw (has-keep x (λ y. not (removed us y)) s, and-comm (not (removed us x)) (has x s)))
 
 -- applied twice is applied once
 pub applied-twice : (us : List Update) (s : List ℕ) → rises s ≡ true → applied us (applied us s) ≡ applied us s

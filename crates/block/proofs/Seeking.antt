@@ -14,6 +14,7 @@ use Rattle.pair.proofs.Each.{Each-imply}
 use Rattle.pair.proofs.Keep.{keep-append, keep-none}
 use Rattle.pair.proofs.Sets.{rising-Each}
 use Rattle.pair.proofs.Tests.{and-left, and-right}
+use Rattle.pair.proofs.Words.{words-take, words-drop}
 use Rattle.block.specs.declared.wanted.Part.{Part}
 use Rattle.block.specs.Block.{zeros, pairsFrom, pairs, formedFrom, formed}
 use Rattle.block.specs.Scan.{readsOn}
@@ -83,17 +84,6 @@ module _ (ws : List ℕ) (i u : ℕ) (o : readsOn (drop i ws) ≡ true) where
       words-entry f (drop i ws) u o
       ∙ simp (getD-drop, drop-drop, add-zero)
       (let e : suc (suc (wordsBefore f (drop (i + 2) ws) (getD ws i 0) (getD ws (i + 1) 0))) ≡ 2 + wordsBefore f (drop (i + 2) ws) (getD ws i 0) (getD ws (i + 1) 0) = omega arith in e)
-
-words-take : (n : ℕ) (xs : List ℕ) → Words xs → Words (take n xs)
-unfolding Words
-words-take zero xs w i = omega arith
-words-take (suc n) [] w i = w i
-words-take (suc n) (x ∷ xs) w zero = w 0
-words-take (suc n) (x ∷ xs) w (suc i) = words-take n xs (λ j. w (suc j)) i
-
-words-drop : (n : ℕ) (xs : List ℕ) → Words xs → Words (drop n xs)
-unfolding Words
-words-drop n xs w i = rw getD-drop (w (n + i))
 
 words-positions : (ws : List ℕ) (i : ℕ) → Words ws → Words (positionsAt ws i)
 words-positions ws i w = words-take (i + 2 + getD ws (i + 1) 0 - (i + 2)) (drop (i + 2) ws) (words-drop (i + 2) ws w)

@@ -12,6 +12,7 @@ use Rattle.card.specs.declared.SegmentScan.{SegmentScan}
 use Rattle.card.specs.Layout.{placeCount, oldStart, oldLength, newLength, boundary, oldPlaces, newPlaces, pairsAt}
 use Rattle.card.specs.Sound.{blocksSound, firstReaches, configurationConditions, segmentsSound, judged}
 use Rattle.card.specs.Scan.{Shaped, segmentSound, segmentScanned}
+use Rattle.card.proofs.Judging.{tested}
 use Rattle.card.proofs.Limits.{limits}
 
 -- what a configuration in order says
@@ -62,10 +63,6 @@ grouped true true false d e f = refl
 grouped true true true false e f = sym (and-false e)
 grouped true true true true e f = refl
 
-tested : (s : Bool) (l k : ℕ) → (s && eqb (cond s l 0) k) ≡ (s && eqb l k)
-tested true l k = refl
-tested false l k = refl
-
 module _ (c : List ℕ) (e : firstOf (configurationConditions c) ≡ 0) (s : SegmentScan) (f : s ≡ segmentScanned c 0 (newPlaces c)) (k : ℕ) (g : k ≡ boundary c) where
   -- both segments
   segments-tests :
@@ -75,7 +72,7 @@ module _ (c : List ℕ) (e : firstOf (configurationConditions c) ≡ 0) (s : Seg
   segments-tests =
       grouped (blocksSound c (newPlaces c)) (blocksSound c (oldPlaces c)) (risingFrom 0 (pairsAt c (newPlaces c)))
       (risingFrom 0 (pairsAt c (oldPlaces c))) (eqb (last 0 (pairsAt c (newPlaces c))) (boundary c)) (firstReaches c (boundary c) (oldPlaces c))
-      ∙ rw (f, g) (rw (tested (segmentSound c 0 (newPlaces c)) (last 0 (pairsAt c (newPlaces c))) (boundary c)))
+      ∙ rw (f, g) (rw (tested (segmentSound c 0 (newPlaces c)) (λ l. eqb l (boundary c)) (last 0 (pairsAt c (newPlaces c)))))
 
   pub judged-new : (s .sound && eqb (s .last) k) ≡ false → 4 ≡ judged c
   judged-new t = sym (judged-late c e ∙ rw (segments-tests, t))

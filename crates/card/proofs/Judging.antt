@@ -21,7 +21,7 @@ use Rattle.card.specs.Sound.{liveBlock, blocksSound, firstReaches}
 use Rattle.card.specs.Scan.{blockScanned, segmentSound, segmentScanned}
 
 -- a test beside a value that stands only where the block is live
-tested : (f : Bool) (t : ℕ → Bool) (g : ℕ) → (f && t (cond f g 0)) ≡ (f && t g)
+pub tested : (f : Bool) (t : ℕ → Bool) (g : ℕ) → (f && t (cond f g 0)) ≡ (f && t g)
 tested true t g = refl
 tested false t g = refl
 

@@ -3,14 +3,31 @@ use Prim.Native.Nat.{ℕ, suc, _+_, _*_, _-_, _≤_, _<_}
 use mathlib.Core.Path.{_≡_, refl, sym, _∙_, ap}
 use mathlib.Core.Bool.{Bool, true, false}
 use mathlib.Core.List.{List, [], _∷_, _++_, append-assoc}
-use native.Mathlib.Nat.{mul-le-mul-right}
+use native.Mathlib.Nat.{add-zero, mul-le-mul-right}
+use native.Mathlib.Numerals.{add-one}
 use native.Mathlib.Omega.{arith}
-use lib.ListN.{length, take, drop, getD, set}
-use lib.Seq.{sets, sets-eq, take-set-le, drop-set-add, drop-set-lt, take-at, drop-at, length-take-le, getD-drop, getD-take}
+use lib.ListN.{length, take, drop, getD, set, length-take, length-drop}
+use lib.Seq.{sets, sets-eq, take-suc, take-set-le, drop-set-add, drop-set-lt, take-at, drop-at, length-take-le, getD-drop, getD-take}
 use lib.Dec.{ltb}
 use borrow.Author.Tests.{ltb-true, ltb-false}
 use Rattle.pair.specs.Rank.{rank}
-use Rattle.card.specs.Layout.{entryWidth, entryAt, firstPair}
+use Rattle.card.specs.Layout.{blockSize, placeCount, entryWidth, entryAt, placeAt, firstPair}
+use Rattle.card.specs.Scan.{Shaped}
+
+pub length-part : (c : List ℕ) (a n : ℕ) → a + n ≤ length c → length (take n (drop a c)) ≡ n
+length-part c a n h = rw (length-take, length-drop) (omega arith)
+
+-- Words written one list after another.
+pub sets-append : (xs ys l : List ℕ) (p : ℕ) → sets l p (xs ++ ys) ≡ sets (sets l p xs) (p + length xs) ys
+sets-append [] ys l p = rw add-zero
+sets-append (x ∷ xs) ys l p =
+    sets-append xs ys (set l p x) (suc p) ∙ (let e : suc p + length xs ≡ p + suc (length xs) = omega arith in rw e)
+
+-- One word more of a list is written.
+pub sets-next : (xs l : List ℕ) (p j : ℕ) → j < length xs → set (sets l p (take j xs)) (p + j) (getD xs j 0) ≡ sets l p (take (j + 1) xs)
+sets-next xs l p j h =
+    let n : length (take j xs) ≡ j = length-take-le j xs (omega arith) in
+    rw (add-one j, take-suc xs j 0 h) (sym (sets-append (take j xs) (getD xs j 0 ∷ []) l p ∙ rw n))
 
 -- Words written after a part leave it.
 pub part-sets-before : (ws l : List ℕ) (m a p : ℕ) → a + m ≤ p → take m (drop a (sets l p ws)) ≡ take m (drop a l)
@@ -56,6 +73,10 @@ part-sets-row ws l w o i j a p d h ea ep = go (ltb i j) refl
     go false t =
         let below : j < i = omega (arith, ltb-false i j t, d) in
         ap (take w) (part-sets-after ws l a p (omega (arith, mul-le-mul-right {n = i} w below)))
+
+-- The place lies in the card.
+pub place-inside : (c : List ℕ) (i : ℕ) → Shaped c → i < placeCount c → placeAt entryWidth c i + blockSize c ≤ length c
+place-inside c i s h = omega (arith, s .long, mul-le-mul-right (blockSize c) h)
 
 -- the words of a map entry
 abbrev pub entry : List ℕ → ℕ → List ℕ

@@ -10,6 +10,7 @@ use lib.Seq.{sets}
 use lib.Dec.{ltb, eqb}
 use Rattle.pair.specs.Rising.{firstOf}
 use Rattle.card.specs.Sound.{judged}
+use Rattle.card.proofs.Parts.{length-part}
 use Rattle.lookup.specs.declared.walk.Walk.{Walk}
 use Rattle.lookup.specs.declared.walk.WalkRun.{WalkRun}
 use Rattle.lookup.specs.declared.LookupAnswer.the-variants.{Refused, Found}
@@ -18,7 +19,6 @@ use Rattle.lookup.specs.Found.{found, questionNumber, lookupNumber, run,
 use Rattle.lookup.specs.Segment.{Opened}
 use Rattle.lookup.specs.Walk.{ahead, blocksOf, Next}
 use Rattle.lookup.proofs.Answers.{lookup-found, lookup-refused}
-use Rattle.lookup.proofs.Gathering.{length-part}
 
 -- the question's number
 pub question-refused : (c : List ℕ) (t a z n : ℕ) → n ≡ judged c → (n ≡ 0 → ⊥) → n ≡ questionNumber c t a z

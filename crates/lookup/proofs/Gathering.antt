@@ -1,18 +1,14 @@
 -- The wanted positions ahead of a walk: counted, and moved to answer words.
-use Prim.Native.Nat.{ℕ, suc, _+_, _-_, _≤_, _<_, zero-le}
-use native.Mathlib.Nat.{add-zero}
-use native.Mathlib.Numerals.{add-one}
+use Prim.Native.Nat.{ℕ, _+_, _-_, _≤_, _<_, zero-le}
 use native.Mathlib.Omega.{arith}
 use mathlib.Core.Path.{_≡_, refl, sym, ap, _∙_}
-use mathlib.Core.List.{List, [], _∷_, _++_, append-assoc, append-nil}
-use lib.ListN.{length, take, drop, getD, set, length-append, length-take, length-drop}
-use lib.Seq.{sets, take-suc, getD-drop, length-sets}
+use mathlib.Core.List.{List, [], _++_, append-assoc, append-nil}
+use lib.ListN.{length, take, drop, getD, set, length-append, length-drop}
+use lib.Seq.{sets, getD-drop, length-sets}
+use Rattle.card.proofs.Parts.{length-part, sets-append, sets-next}
 use Rattle.lookup.specs.declared.walk.Walk.{Walk}
 use Rattle.lookup.specs.declared.walk.WalkRun.{WalkRun}
 use Rattle.lookup.specs.Walk.{ahead, ReadyWalk, Next}
-
-pub length-part : (c : List ℕ) (a n : ℕ) → a + n ≤ length c → length (take n (drop a c)) ≡ n
-length-part c a n h = rw (length-take, length-drop) (omega arith)
 
 -- n positions of those ahead of the walk v are counted, and the others are ahead of w
 pub record Counting (c : List ℕ) (v w : Walk) (n : ℕ) : Type 0 where
@@ -38,12 +34,6 @@ counting-turn {c} {v} {w} {n} {r} k x =
 pub counting-end : {c : List ℕ} {v w : Walk} {n : ℕ} {r : WalkRun} → Counting c v w n → Next c w r → r .len ≡ 0 → n ≡ length (ahead c v)
 counting-end k x e = omega (arith, k .total, ap length (x .none (k .ready) e))
 
--- storing one list after another
-pub sets-append : (xs ys l : List ℕ) (p : ℕ) → sets l p (xs ++ ys) ≡ sets (sets l p xs) (p + length xs) ys
-sets-append [] ys l p = rw add-zero
-sets-append (x ∷ xs) ys l p =
-    sets-append xs ys (set l p x) (suc p) ∙ (let e : suc p + length xs ≡ p + suc (length xs) = omega arith in rw e)
-
 -- the first j of len words of a part of the card are moved
 pub record Copying (c l : List ℕ) (start len at : ℕ) (now : List ℕ) (j : ℕ) : Type 0 where
   pub within : j ≤ len
@@ -59,12 +49,9 @@ pub copying-turn :
     {c l now : List ℕ} {start len at j : ℕ} → Copying c l start len at now j → j < len → start + len ≤ length c →
     Copying c l start len at (set now (at + j) (getD c (start + j) 0)) (j + 1)
 copying-turn {c} {l} {now} {start} {len} {at} {j} k h f =
-    let n : length (take j (drop start c)) ≡ j = rw (length-take, length-drop) (omega arith) in
     record {
       within = omega arith;
-      same =
-          rw (k .same, add-one, take-suc (drop start c) j 0 (rw length-drop (omega arith)), getD-drop)
-          (sym (sets-append (take j (drop start c)) (getD c (start + j) 0 ∷ []) l at ∙ rw n));
+      same = rw (k .same, ← getD-drop start c j 0) (sets-next (drop start c) l at j (rw length-drop (omega arith)));
     }
 
 pub copying-end : {c l now : List ℕ} {start len at j : ℕ} → Copying c l start len at now j → len ≤ j → now ≡ sets l at (take len (drop start c))

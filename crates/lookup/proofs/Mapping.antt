@@ -11,7 +11,7 @@ use lib.Dec.{ltb, leb, eqb}
 use Rattle.pair.specs.Rank.{rank}
 use Rattle.pair.specs.Rising.{keep, atMost, risingFrom, last}
 use Rattle.pair.proofs.Parts.{atMost-none}
-use Rattle.pair.proofs.Rising.{rising-cons, rising-weaker}
+use Rattle.pair.proofs.Rising.{rising-cons, rising-weaker, rising-tail}
 use Rattle.pair.proofs.Search.{Halved, halved-start, halved-up, halved-down, halved-end}
 use Rattle.block.specs.Block.{pairs}
 use Rattle.card.specs.Layout.{placeCount, firstPair, place, around, pairsAt}
@@ -35,17 +35,9 @@ mapped-count : (c is : List ℕ) (j k : ℕ) → risingFrom j (map (firstPair c)
 unfolding mappedTo atMost keep risingFrom
 mapped-count c [] j k r = refl
 mapped-count c (i ∷ is) j k r =
-    let behind : risingFrom (firstPair c i) (map (firstPair c) is) ≡ true = tail r in
+    let behind : risingFrom (firstPair c i) (map (firstPair c) is) ≡ true = rising-tail (firstPair c i) (map (firstPair c) is) j r in
     go (leb (firstPair c i) k) refl behind (mapped-count c is (firstPair c i) k behind)
   where
-    and-second : (a b : Bool) → (a && b) ≡ true → b ≡ true
-    and-second true b e = e
-    and-second false true e = refl
-    and-second false false e = e
-
-    tail : (ltb j (firstPair c i) && risingFrom (firstPair c i) (map (firstPair c) is)) ≡ true → risingFrom (firstPair c i) (map (firstPair c) is) ≡ true
-    tail e = and-second (ltb j (firstPair c i)) (risingFrom (firstPair c i) (map (firstPair c) is)) e
-
     go :
         (s : Bool) → leb (firstPair c i) k ≡ s → risingFrom (firstPair c i) (map (firstPair c) is) ≡ true →
         mappedTo c k is ≡ length (atMost k (map (firstPair c) is)) →

@@ -1,17 +1,16 @@
 -- A reading: what a reader yields goes to the answer words, one posting after another.
 use Prim.Native.Nat.{ℕ, zero, suc, _+_, _≤_, _<_, zero-le}
-use native.Mathlib.Numerals.{add-one}
 use native.Mathlib.Omega.{arith}
 use mathlib.Core.Path.{_≡_, refl, sym, ap, _∙_}
 use mathlib.Core.List.{List, [], _∷_, map}
 use lib.ListN.{length, take, getD, set, length-take}
-use lib.Seq.{sets, take-suc, take-all, length-sets}
+use lib.Seq.{sets, take-all, length-sets}
+use Rattle.card.proofs.Parts.{sets-next}
 use Rattle.lookup.specs.declared.reading.Cursor.{Cursor}
 use Rattle.lookup.specs.declared.reading.Step.{Step}
 use Rattle.lookup.specs.declared.reading.Yield.the-variants.{Posting, End}
 use Rattle.lookup.specs.Found.{questionNumber, allYielded, posting, ended, yielded, read}
 use Rattle.lookup.specs.Reading.{Stands, yieldOf, Stepped, ReadOff}
-use Rattle.lookup.proofs.Gathering.{sets-append}
 
 -- where a posting is yielded, it is the next of them all; where the end is, there are no more
 yields-there : (ys : List ℕ) (n p : ℕ) → posting p ≡ getD (map posting ys) n ended → (n < length ys) × (p ≡ getD ys n 0)
@@ -44,14 +43,11 @@ unfolding yielded
 taking-turn {c} {l} {now} {t} {a} {z} {i} {p} g h s e =
     let all = allYielded c t a z in
     let there = yields-there all i p (sym (ap yieldOf e) ∙ s .yields t a z i (g .stands)) in
-    let n : length (take i all) ≡ i = rw length-take (omega (arith, there .0)) in
     record {
       room = omega (arith, taking-length g);
       some = omega (arith, there .0);
       stands = s .stands t a z i (g .stands);
-      same =
-          rw (g .same, add-one i, take-suc all i 0 (there .0), there .1)
-          (sym (sets-append (take i all) (getD all i 0 ∷ []) l 0 ∙ (let e : 0 + i ≡ i = omega arith in rw (n, e))));
+      same = let e : i ≡ 0 + i = omega arith in rw (g .same, there .1) (ap (λ j. set (sets l 0 (take i all)) j (getD all i 0)) e ∙ sets-next all l 0 i (there .0));
     }
 
 pub taking-full : {c l now : List ℕ} {t a z i m : ℕ} {k : Cursor} → Taking c t a z l k now i → length now ≤ i → m ≡ questionNumber c t a z → ReadOff m i now (read c t a z l)

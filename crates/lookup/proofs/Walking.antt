@@ -6,7 +6,7 @@ use mathlib.Core.Path.{_≡_, refl, sym, ap, _∙_}
 use mathlib.Core.Bool.{Bool, true, false, cond, _&&_, true≢false, false≢true}
 use mathlib.Core.List.{List, [], _∷_, _++_, map, append-assoc}
 use borrow.Author.Tests.{leb-true, eqb-true, le-ltb, le-leb, eq-eqb}
-use lib.ListN.{length, take, drop, length-take, length-drop, length-map}
+use lib.ListN.{length, take, drop, length-take, length-map}
 use lib.Seq.{drop-drop}
 use lib.Dec.{ltb, leb, eqb}
 use Rattle.pair.specs.Rank.{position}
@@ -17,6 +17,7 @@ use Rattle.block.specs.Block.{pairs, formed}
 use Rattle.block.specs.Wanted.{isWanted, wordsBefore, BlockPart}
 use Rattle.block.specs.declared.wanted.Part.{Part}
 use Rattle.block.proofs.Seeking.{take-part}
+use Rattle.card.proofs.Parts.{length-part, place-inside}
 use Rattle.card.specs.Layout.{blockSize, placeCount, entryWidth, cardLength, placeAt, place, around, pairsAt}
 use Rattle.card.proofs.Circle.{around-mod}
 use Rattle.lookup.specs.declared.walk.Stretch.{Stretch}
@@ -61,11 +62,6 @@ shape-on c h e = rw (le-ltb (length c) 8 h, e)
 pub product-small : (b n : ℕ) → b ≤ 1024 → n ≤ 1024 → n * b ≤ 1048576
 product-small b n h l = omega (arith, mul-le-mul-right b l)
 
-pub place-room : (c : List ℕ) (i : ℕ) → Shaped c → i < placeCount c → placeAt entryWidth c i + blockSize c ≤ length c
-place-room c i s h =
-    let l : suc i ≤ placeCount c = omega arith in
-    omega (arith, mul-le-mul-right (blockSize c) l, s .long)
-
 -- what a block answers, said of the card
 pub place-part :
     {c : List ℕ} {i t a z : ℕ} {r : Part} → Shaped c → i < placeCount c →
@@ -74,7 +70,7 @@ pub place-part :
 unfolding place
 place-part {c} {i} {t} {a} {z} {r} s h p =
     record {
-      inside = omega (arith, p′ .inside, long, place-room c i s h);
+      inside = omega (arith, p′ .inside, long, place-inside c i s h);
       positions = λ f. rw (← drop-drop (r .start) (placeAt entryWidth c i) c)
           (sym (take-part (drop (placeAt entryWidth c i) c) (r .start) (r .len) (blockSize c) (omega (arith, p′ .inside, long)))
           ∙ p′ .positions f);
@@ -248,7 +244,7 @@ module _ {c : List ℕ} {t z : ℕ} {s : Stretch} {p b : ℕ} {x : Part} (k : Se
       some r =
           let e : length (take (x .len) (drop (x .start) c)) ≡ length (keep f (pairs (place c p)))
           = ap length (y .positions (live r .0)) ∙ length-map (keep f (pairs (place c p))) position in
-          let m : length (take (x .len) (drop (x .start) c)) ≡ x .len = rw (length-take, length-drop) (omega (arith, y .inside)) in
+          let m = length-part c (x .start) (x .len) (y .inside) in
           omega arith
 
 -- two stretches, one after the other
@@ -261,9 +257,6 @@ or-some-at : (xs : List ℕ) (i j : ℕ) → 0 < length xs → orElseAt xs i j �
 unfolding orElseAt
 or-some-at [] i j h = absurd (omega arith)
 or-some-at (x ∷ xs) i j h = refl
-
-length-part : (c : List ℕ) (a n : ℕ) → a + n ≤ length c → length (take n (drop a c)) ≡ n
-length-part c a n h = rw (length-take, length-drop) (omega arith)
 
 pub next-new :
     {c : List ℕ} {w : Walk} {r : StretchRun} → Sought c (w .term) (w .to) (w .new) r → 0 < r .len →

@@ -11,7 +11,7 @@ use Rattle.pair.specs.Rank.{Words}
 use Rattle.pair.specs.Rising.{risingFrom, last}
 use Rattle.block.specs.Block.{due, goesOn}
 use Rattle.block.proofs.Due.{goesOn-some}
-use Rattle.card.specs.Layout.{blockSize, placeCount, oldLength, newLength, boundary, oldPlaces, pairsAt, live}
+use Rattle.card.specs.Layout.{blockSize, placeCount, oldStart, oldLength, newLength, boundary, oldPlaces, pairsAt, live}
 use Rattle.card.proofs.Circle.{length-around}
 use Rattle.card.proofs.Facts.{Facts}
 use Rattle.card.proofs.Live.{live-above}
@@ -46,12 +46,12 @@ not-crowded c r on ends = go (eqb (length r) 0) (goesOn (blockSize c) r) refl re
     go false true p q = rw (p, q) (lt-leb (placeCount c) _ (on q))
     go false false p q = rw (p, q) (lt-leb (placeCount c) _ (let h : newLength c + cond false 0 1 < placeCount c = rw p at ends in omega arith))
 
+length-old : (c : List ℕ) → length (oldPlaces c) ≡ oldLength c
+length-old c = length-around (placeCount c) (oldStart c) (oldLength c)
+
 module _ (c b : List ℕ) (f : Facts c) (w : Words c) (o : Removals b) where
   low : 3 ≤ blockSize c
   low = omega (arith, f .sizeLow)
-
-  length-old : length (oldPlaces c) ≡ oldLength c
-  length-old = length-around (placeCount c) _ (oldLength c)
 
   -- removals with room for them
   pub removals-not-crowded : Room (stays b) c (boundary c) (oldPlaces c) (newLength c) (placeCount c) → crowded c (remains c b) ≡ false
@@ -59,8 +59,8 @@ module _ (c b : List ℕ) (f : Facts c) (w : Words c) (o : Removals b) where
       let k : ℕ = boundary c in
       rw (remains-removals c b f o)
       (not-crowded c (Kept (stays b) c k (oldPlaces c))
-      (λ g. rw length-old at (room-next (stays b) c k w low (oldPlaces c) (newLength c) (placeCount c) 0 (f .oldRising) (goesOn-some _ _ g) (rw length-old (f .room)) h .0))
-      (let two = room-last (stays b) c k (oldPlaces c) (newLength c) (placeCount c) (rw length-old (f .room)) h in omega arith))
+      (λ g. rw (length-old c) at (room-next (stays b) c k w low (oldPlaces c) (newLength c) (placeCount c) 0 (f .oldRising) (goesOn-some _ _ g) (rw (length-old c) (f .room)) h .0))
+      (let two = room-last (stays b) c k (oldPlaces c) (newLength c) (placeCount c) (rw (length-old c) (f .room)) h in omega arith))
 
 -- the empty batch leaves every pair
 stays-all : (x : ℕ) → stays [] x ≡ true
@@ -76,8 +76,8 @@ pub empty-not-crowded : (c : List ℕ) → Facts c → Words c → crowded c (re
 empty-not-crowded c f w =
     rw (remains-removals c [] f empty-removals)
     (not-crowded c (Kept g c k (oldPlaces c))
-    (λ s. on (oldPlaces c) length-old′ (f .oldRising) (goesOn-some _ _ s))
-    (ends (oldPlaces c) length-old′))
+    (λ s. on (oldPlaces c) (length-old c) (f .oldRising) (goesOn-some _ _ s))
+    (ends (oldPlaces c) (length-old c)))
   where
     g : ℕ → Bool
     g = stays []
@@ -87,9 +87,6 @@ empty-not-crowded c f w =
 
     room : oldLength c + newLength c < placeCount c
     room = f .room
-
-    length-old′ : length (oldPlaces c) ≡ oldLength c
-    length-old′ = length-around (placeCount c) _ (oldLength c)
 
     on : (is : List ℕ) → length is ≡ oldLength c → risingFrom 0 (pairsAt c is) ≡ true → 0 < length (Kept g c k is) →
         oldLength c - spent c (Last g c k is) is + (newLength c + 1) < placeCount c

@@ -1,7 +1,7 @@
 -- One pair after the other from the old segment: where the cursor stands after each way of going on.
 use Prim.Native.Nat.{ℕ, zero, suc, _+_, _-_, _%_, _≤_, _<_}
 use native.Mathlib.Omega.{arith}
-use native.Mathlib.Nat.{mul-le-mul-right, mod-lt}
+use native.Mathlib.Nat.{mod-lt}
 use mathlib.Core.Path.{_≡_, refl, sym, _∙_}
 use mathlib.Core.Bool.{Bool, true, false, _&&_, not, false≢true}
 use mathlib.Core.Logic.{_≢_}
@@ -18,9 +18,9 @@ use Rattle.block.specs.Block.{pairsFrom, pairs, formedFrom, formed}
 use Rattle.block.specs.Scan.{readsOn}
 use Rattle.block.proofs.Walk.{reads-on, pairs-stops, unformed-start}
 use Rattle.card.specs.Layout.{blockSize, placeCount, entryWidth, firstPair, placeAt, place, around, pairsAt}
-use Rattle.card.specs.Scan.{Shaped}
 use Rattle.card.specs.Sound.{blocksSound}
 use Rattle.card.proofs.Judging.{place-part}
+use Rattle.card.proofs.Parts.{place-inside}
 use Rattle.update.specs.declared.old.OldCursor.{OldCursor}
 use Rattle.update.specs.Old.{rest, coming, pending, EntryAt, entryAtWords, Reading, Stands, Advanced}
 
@@ -235,9 +235,6 @@ formed-reads ws e = ((unfold formed in and-left (formedFrom ws 0 0 0) _ e), go (
     go false f = contradiction (formed ws) e (unformed-start ws f)
 
 -- the places lie in the card
-pub place-inside : (c : List ℕ) (i : ℕ) → Shaped c → i < placeCount c → placeAt entryWidth c i + blockSize c ≤ length c
-place-inside c i s h = omega (arith, s .long, mul-le-mul-right (blockSize c) h)
-
 pub place-entered :
     {c : List ℕ} {o : OldCursor} → Stands c o → o .count ≡ 0 → (o .places ≡ 0 → ⊥) →
     Entered c (placeAt entryWidth c (o .place % placeCount c)) (placeAt entryWidth c (o .place % placeCount c) + blockSize c) 0

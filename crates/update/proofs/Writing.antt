@@ -6,10 +6,11 @@ use mathlib.Core.Path.{_≡_, refl, sym, ap, _∙_}
 use mathlib.Core.Bool.{Bool, true, false, _&&_, and-assoc, and-true, and-false}
 use mathlib.Core.Logic.{_≢_}
 use mathlib.Core.List.{List, [], _∷_}
-use lib.ListN.{length, drop, getD, set, length-set, drop-of-length-le}
-use lib.Seq.{sets, sets-eq, paste, paste-zero, paste-suc, drop-cons, take-all}
+use lib.ListN.{length, take, drop, getD, set, drop-of-length-le}
+use lib.Seq.{sets, drop-cons, take-all, length-sets}
 use lib.Dec.{eqb}
 use Rattle.pair.specs.Rising.{same}
+use Rattle.card.proofs.Parts.{sets-next}
 
 -- the words up to i are compared: the lists are the same exactly where ok says so of these and the rest is the same
 pub record Compared (a b : List ℕ) (ok : Bool) (i : ℕ) : Type 0 where
@@ -45,24 +46,17 @@ same-lengths (x ∷ xs) (y ∷ ys) n = rw (← same-lengths xs ys (λ e. n (ap s
 
 -- the words up to i are copied
 pub record Copied (d : List ℕ) (at : ℕ) (s e : List ℕ) (i : ℕ) : Type 0 where
-  pub fits : at + length s ≤ length d
   pub within : i ≤ length s
-  pub long : length e ≡ length d
-  pub words : e ≡ paste d at s i
+  pub words : e ≡ sets d at (take i s)
 
-pub copied-start : (d : List ℕ) (at : ℕ) (s : List ℕ) → at + length s ≤ length d → Copied d at s d 0
-copied-start d at s h = record { fits = h; within = zero-le; long = refl; words = paste-zero d at s }
+pub copied-start : (d : List ℕ) (at : ℕ) (s : List ℕ) → Copied d at s d 0
+copied-start d at s = record { within = zero-le; words = refl }
+
+pub copied-length : {d : List ℕ} {at : ℕ} {s e : List ℕ} {i : ℕ} → Copied d at s e i → length e ≡ length d
+copied-length {d} {at} {s} {e} {i} r = ap length (r .words) ∙ length-sets d at (take i s)
 
 pub copied-turn : {d : List ℕ} {at : ℕ} {s e : List ℕ} {i : ℕ} → Copied d at s e i → i < length s → Copied d at s (set e (at + i) (getD s i 0)) (i + 1)
-copied-turn {d} {at} {s} {e} {i} r h =
-    record {
-      fits = r .fits;
-      within = omega arith;
-      long = length-set e (at + i) (getD s i 0) ∙ r .long;
-      words = ap (λ (l : List ℕ). set l (at + i) (getD s i 0)) (r .words) ∙ paste-suc d at s i 0 (omega (arith, r .fits)) h ∙ ap (paste d at s) (sym (add-one i));
-    }
+copied-turn {d} {at} {s} {e} {i} r h = record { within = omega arith; words = rw (r .words) (sets-next s d at i h) }
 
 pub copied-end : {d : List ℕ} {at : ℕ} {s e : List ℕ} {i : ℕ} → Copied d at s e i → length s ≤ i → e ≡ sets d at s
-copied-end {d} {at} {s} {e} {i} r h =
-    let n : i ≡ length s = omega (arith, r .within) in
-    r .words ∙ rw (n, take-all (length s) s (omega arith)) (sym (sets-eq s d at (r .fits)))
+copied-end {d} {at} {s} {e} {i} r h = r .words ∙ rw (take-all i s h)

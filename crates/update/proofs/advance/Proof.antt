@@ -16,7 +16,7 @@ use Rattle.card.proofs.Facts.{Facts, facts}
 use Rattle.card.proofs.Judging.{place-part}
 use Rattle.update.specs.Answer.{freedBy, configurationOf}
 use Rattle.update.specs.Step.{duePlace}
-use Rattle.update.proofs.Cursor.{place-inside}
+use Rattle.card.proofs.Parts.{place-inside}
 use Rattle.update.proofs.Outcome.{answered-as, refusal, outcome-none, outcome-crowded, outcome-block, outcome-entry, outcome-settled, entry-same, sets-entry}
 use Rattle.update.proofs.Skipping.{shape, eight}
 use borrow.Author.Needs.{needs}

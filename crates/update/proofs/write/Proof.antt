@@ -2,7 +2,7 @@
 use Prim.Native.Nat.{_-_}
 use native.Mathlib.Omega.{arith}
 use lib.ListN.{length}
-use Rattle.update.proofs.Writing.{Copied, copied-start, copied-turn, copied-end}
+use Rattle.update.proofs.Writing.{Copied, copied-start, copied-length, copied-turn, copied-end}
 use borrow.Author.Needs.{needs}
 use Rattle.update.proofs.write.Statement.{statement}
 use Rattle.update.proofs.write.Tie as tie
@@ -14,7 +14,7 @@ abbrev μ-loop : tie.MeasureT-loop
 μ-loop card₀ at words i₀ card i = length words - i
 
 loop-holds : tie.Need-loop-holds Inv-loop μ-loop
-loop-holds c = copied-start _ _ _ (c .pre)
+loop-holds c = copied-start _ _ _
 
 mul-card : tie.Need-mul-card Inv-loop μ-loop
 mul-card c = search needs
@@ -29,7 +29,7 @@ mul-card-2 : tie.Need-mul-card-2 Inv-loop μ-loop
 mul-card-2 c = search needs
 
 slice-write-card : tie.Need-slice-write-card Inv-loop μ-loop
-slice-write-card c = omega (arith, c .before .before .loop .inv .fits, c .before .before .loop .inv .long, c .before .loop-test .taken)
+slice-write-card c = omega (arith, c .before .before .before .pre, copied-length (c .before .before .loop .inv), c .before .loop-test .taken)
 
 add-i : tie.Need-add-i Inv-loop μ-loop
 add-i c = search needs
@@ -41,7 +41,7 @@ loop-again : tie.Need-loop-again Inv-loop μ-loop
 loop-again c = copied-turn (c .before .before .loop .inv) (c .before .loop-test .taken)
 
 same-length : tie.Need-same-length Inv-loop μ-loop
-same-length c = c .before .loop .inv .long
+same-length c = copied-length (c .before .loop .inv)
 
 returns : tie.Need-returns Inv-loop μ-loop
 returns c = copied-end (c .before .loop .inv) (c .loop-test .left)

@@ -3,13 +3,14 @@ use Prim.Native.Nat.{_+_, _≤_}
 use native.Mathlib.Omega.{arith}
 use lib.ListN.{length}
 use Rattle.card.specs.Layout.{blockSize, entryWidth, placeAt}
-use Rattle.lookup.proofs.Walking.{place-room, place-part}
+use Rattle.card.proofs.Parts.{place-inside}
+use Rattle.lookup.proofs.Walking.{place-part}
 use borrow.Author.Needs.{needs}
 use Rattle.lookup.proofs.walk.place_part.Statement.{statement}
 use Rattle.lookup.proofs.walk.place_part.Tie as tie
 
 room : (c : tie.Start) → placeAt entryWidth (c .args .card .now) (c .args .place) + blockSize (c .args .card .now) ≤ length (c .args .card .now)
-room c = place-room _ _ (c .pre .0) (c .pre .1)
+room c = place-inside _ _ (c .pre .0) (c .pre .1)
 
 shared-slice-read-size : tie.Need-shared-slice-read-size
 shared-slice-read-size c = search needs

@@ -9,7 +9,8 @@ use lib.ListN.{length}
 use Rattle.block.specs.Scan.{readsOn}
 use Rattle.card.specs.Layout.{blockSize}
 use Rattle.update.specs.Old.{rest}
-use Rattle.update.proofs.Cursor.{position-room, advanced-position, entry-there, advanced-entry, advanced-end, place-inside, place-entered, advanced-place}
+use Rattle.card.proofs.Parts.{place-inside}
+use Rattle.update.proofs.Cursor.{position-room, advanced-position, entry-there, advanced-entry, advanced-end, place-entered, advanced-place}
 use borrow.Author.Needs.{needs}
 use Rattle.update.proofs.old.next.Statement.{statement}
 use Rattle.update.proofs.old.next.Tie as tie

@@ -9,7 +9,7 @@ use Rattle.pair.specs.Rank.{Words}
 use Rattle.block.specs.Scan.{scanned}
 use Rattle.card.specs.Layout.{blockSize, placeCount, oldStart, place}
 use Rattle.card.proofs.Judging.{place-part}
-use Rattle.update.proofs.Cursor.{place-inside}
+use Rattle.card.proofs.Parts.{place-inside}
 use native.Mathlib.Omega.{arith}
 use Rattle.card.proofs.Facts.{Facts, facts}
 use Rattle.update.proofs.Skipping.{shape, eight, Freeing, freeing-start, freeing-turn, freeing-stop, freeing-end}
