@@ -159,23 +159,7 @@ impl Steps {
     /// Prints the test's lines.
     pub fn report(&self, test: &str) {
         self.numbers.report(test);
-        println!(
-            "{test}: writes 1 to 3 {:?}, going on {}, finished {}, nothing remained {}, freed in \
-             mid-pass {}, several {}, all {}; in mid-pass {}, due place before old start {}, full \
-             {}; whole passes {}, at the limit {}",
-            &self.writes[1..],
-            self.going_on,
-            self.finished,
-            self.nothing_remained,
-            self.freed_in_mid_pass,
-            self.freed_several,
-            self.freed_all_in_mid_pass,
-            self.began_in_mid_pass,
-            self.due_place_before_old_start,
-            self.on_full_cards,
-            self.passes,
-            self.passes_at_the_limit
-        );
+        println!("{test}: {self:?}");
     }
 
     /// Fails unless each of these numbers came at least `least` times.
