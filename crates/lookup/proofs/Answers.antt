@@ -1,17 +1,17 @@
--- A lookup answered and a lookup refused.
+-- Lookups and readings answered and refused.
 use Prim.Native.Nat.{ℕ, _≤_}
 use mathlib.Core.Path.{_≡_, refl, sym, _∙_, ap}
 use mathlib.Core.Bool.{Bool, true, false, _||_}
 use mathlib.Core.List.{List}
 use native.Mathlib.Omega.{arith}
 use lib.ListN.{length}
-use lib.Seq.{sets}
+use lib.Seq.{sets, take-nil}
 use lib.Dec.{ltb, eqb}
 use borrow.Author.Tests.{ltb-false, eqb-true, eqb-false}
 use Rattle.pair.proofs.Tests.{or-left, or-right}
 use Rattle.pair.proofs.FirstOf.{passed, handed-on}
 use Rattle.card.specs.Sound.{judged}
-use Rattle.lookup.specs.Found.{found, questionNumber, lookupNumber, lookup, blocksRead}
+use Rattle.lookup.specs.Found.{found, questionNumber, lookupNumber, lookup, blocksRead, allYielded, read}
 
 -- a question that is not refused
 pub record Asked (c : List ℕ) (t a z : ℕ) : Type 0 where
@@ -52,7 +52,14 @@ pub lookup-refused :
 unfolding lookup
 lookup-refused c t a z answer e = rw e
 
--- Its number is the lookup's number, refused or not.
+-- Nor does a refused reading.
+pub read-refused :
+    (c : List ℕ) (t a z : ℕ) (answer : List ℕ) → eqb (questionNumber c t a z) 0 ≡ false →
+    read c t a z answer ≡ record { number = questionNumber c t a z; count = 0; answer = answer }
+unfolding read allYielded
+read-refused c t a z answer e = rw (e, take-nil (length answer))
+
+-- A lookup's number is that of its definition, refused or not.
 pub lookup-number : (c : List ℕ) (t a z : ℕ) (answer : List ℕ) → lookup c t a z answer .number ≡ lookupNumber c t a z answer
 lookup-number c t a z answer = go (eqb (lookupNumber c t a z answer) 0) refl
   where
