@@ -1,3 +1,4 @@
+pub mod Decisions
 pub mod InOrder
 pub mod Local
 pub mod Meaning

@@ -1,24 +1,32 @@
 -- Reading a batch from the middle: what a loop over its records has still to read.
-use Prim.Native.Nat.{ℕ, _+_, _%_, _≤_, _<_, zero-le}
+use Prim.Native.Nat.{ℕ, zero, suc, _+_, _*_, _/_, _%_, _≤_, _<_}
 use native.Mathlib.Nat.{add-zero}
 use native.Mathlib.Omega.{arith}
 use mathlib.Core.Path.{_≡_, refl, sym, _∙_}
 use mathlib.Core.Bool.{Bool, false, cond, _||_, or-assoc, or-false}
 use mathlib.Core.Logic.{_≢_}
-use borrow.Author.Tests.{eq-eqb, ne-eqb, lt-ltb, le-ltb}
-use Rattle.pair.specs.Rising.{firstOf}
 use mathlib.Core.List.{List, [], _∷_}
-use lib.ListN.{length, drop, getD, drop-of-length-le, length-drop}
-use lib.Seq.{getD-drop, drop-drop}
+use lib.ListN.{length, drop, getD, length-drop}
+use lib.Seq.{getD-drop, drop-drop, drop-nil}
 use lib.Dec.{ltb}
+use borrow.Author.Tests.{eq-eqb, ne-eqb, lt-ltb, le-ltb}
 use Rattle.pair.specs.Rank.{rank}
-use Rattle.batch.specs.Batch.{Update, updates, anyUpdate, illFormed, falls, batchNumber}
+use Rattle.pair.specs.Rising.{firstOf}
+use Rattle.batch.specs.declared.Record.{Record}
+use Rattle.batch.specs.Batch.{updates, anyUpdate, illFormed, falls, batchNumber}
+use Rattle.batch.specs.Search.{recordAt, updateOf}
 
--- the record at i
-abbrev pub recordAt : List ℕ → ℕ → Update
-recordAt b i = record { kind = getD b i 0; term = getD b (i + 1) 0; from = getD b (i + 2) 0; to = getD b (i + 3) 0 }
+-- dropping words by fours is dropping records
+updates-drop : (n : ℕ) (b : List ℕ) → updates (drop (n * 4) b) ≡ drop n (updates b)
+unfolding updates
+updates-drop zero b = refl
+updates-drop (suc n) [] = rw (drop-nil (suc n * 4))
+updates-drop (suc n) (k ∷ []) = let e : suc n * 4 ≡ suc (n * 4 + 3) = omega arith in rw (e, drop-nil (n * 4 + 3))
+updates-drop (suc n) (k ∷ t ∷ []) = let e : suc n * 4 ≡ suc (suc (n * 4 + 2)) = omega arith in rw (e, drop-nil (n * 4 + 2))
+updates-drop (suc n) (k ∷ t ∷ a ∷ []) = let e : suc n * 4 ≡ suc (suc (suc (n * 4 + 1))) = omega arith in rw (e, drop-nil (n * 4 + 1))
+updates-drop (suc n) (k ∷ t ∷ a ∷ z ∷ ws) = let e : suc n * 4 ≡ suc (suc (suc (suc (n * 4)))) = omega arith in rw e (updates-drop n ws)
 
-first-record : (ws : List ℕ) → 3 < length ws → updates ws ≡ recordAt ws 0 ∷ updates (drop 4 ws)
+first-record : (ws : List ℕ) → 3 < length ws → updates ws ≡ updateOf (recordAt ws 0) ∷ updates (drop 4 ws)
 unfolding updates
 first-record [] h = absurd (omega arith)
 first-record (k ∷ []) h = absurd (omega arith)
@@ -26,43 +34,42 @@ first-record (k ∷ t ∷ []) h = absurd (omega arith)
 first-record (k ∷ t ∷ a ∷ []) h = absurd (omega arith)
 first-record (k ∷ t ∷ a ∷ z ∷ ws) h = refl
 
-pub updates-at : (b : List ℕ) (i : ℕ) → i + 3 < length b → updates (drop i b) ≡ recordAt b i ∷ updates (drop (i + 4) b)
-updates-at b i h = first-record (drop i b) (simp length-drop (omega arith)) ∙ simp (getD-drop, drop-drop, add-zero)
-
-pub updates-end : (b : List ℕ) (i : ℕ) → length b ≤ i → updates (drop i b) ≡ []
+updates-short : (ws : List ℕ) → length ws < 4 → updates ws ≡ []
 unfolding updates
-updates-end b i h = rw (drop-of-length-le b h)
+updates-short [] h = refl
+updates-short (k ∷ []) h = refl
+updates-short (k ∷ t ∷ []) h = refl
+updates-short (k ∷ t ∷ a ∷ []) h = refl
+updates-short (k ∷ t ∷ a ∷ z ∷ ws) h = absurd (omega arith)
 
--- the records up to i are read: one of the batch is ill formed exactly where bad says so of these or one of the rest is, and the
+-- the record n, and the end of the records
+pub update-at : (b : List ℕ) (n : ℕ) → n < length b / 4 → drop n (updates b) ≡ updateOf (recordAt b n) ∷ drop (n + 1) (updates b)
+update-at b n h =
+    let e : n * 4 + 4 ≡ (n + 1) * 4 = omega arith in
+    let f : drop 4 (drop (n * 4) b) ≡ drop ((n + 1) * 4) b = drop-drop 4 (n * 4) b ∙ rw e in
+    sym (updates-drop n b) ∙ (first-record (drop (n * 4) b) (simp length-drop (omega arith)) ∙ simp (f, updates-drop (n + 1) b, getD-drop, add-zero))
+
+pub update-end : (b : List ℕ) (n : ℕ) → length b / 4 ≤ n → drop n (updates b) ≡ []
+update-end b n h = sym (updates-drop n b) ∙ updates-short (drop (n * 4) b) (simp length-drop (omega arith))
+
+-- the first n records are read: one of the batch is ill formed exactly where bad says so of these or one of the rest is, and the
 -- same of the order, with the rank of the last record read
-pub record Reads (b : List ℕ) (bad fallen : Bool) (before i : ℕ) : Type 0 where
-  pub within : i ≤ length b
-  pub whole : i % 4 ≡ 0
-  pub formed : anyUpdate illFormed (updates b) ≡ (bad || anyUpdate illFormed (updates (drop i b)))
-  pub ordered : falls 0 (updates b) ≡ (fallen || falls before (updates (drop i b)))
+pub record Reads (b : List ℕ) (bad fallen : Bool) (before n : ℕ) : Type 0 where
+  pub formed : anyUpdate illFormed (updates b) ≡ (bad || anyUpdate illFormed (drop n (updates b)))
+  pub ordered : falls 0 (updates b) ≡ (fallen || falls before (drop n (updates b)))
 
 pub reads-start : (b : List ℕ) → Reads b false false 0 0
-reads-start b = record { within = zero-le; whole = refl; formed = refl; ordered = refl }
+reads-start b = record { formed = refl; ordered = refl }
 
 pub reads-turn :
-    {b : List ℕ} {bad fallen : Bool} {before i : ℕ} → Reads b bad fallen before i → length b % 4 ≡ 0 → i < length b →
-    Reads b (bad || illFormed (recordAt b i)) (fallen || ltb (rank (getD b (i + 1) 0) (getD b (i + 2) 0)) before) (rank (getD b (i + 1) 0) (getD b (i + 2) 0)) (i + 4)
+    {b : List ℕ} {bad fallen : Bool} {before n : ℕ} → Reads b bad fallen before n → n < length b / 4 → (u : Record) → u ≡ recordAt b n →
+    Reads b (bad || illFormed (updateOf u)) (fallen || ltb (rank (u .term) (u .from)) before) (rank (u .term) (u .from)) (n + 1)
 unfolding anyUpdate falls
-reads-turn {b} {bad} {fallen} {before} {i} r w h =
-    let room : i + 3 < length b = omega (arith, r .whole, r .within) in
-    record {
-      within = omega arith;
-      whole = omega (arith, r .whole);
-      formed = r .formed ∙ rw (updates-at b i room) (sym (or-assoc bad (illFormed (recordAt b i)) _));
-      ordered = r .ordered ∙ rw (updates-at b i room) (sym (or-assoc fallen _ _));
+reads-turn {b} {bad} {fallen} {before} {n} r h u e =
+    rw e record {
+      formed = r .formed ∙ rw (update-at b n h) (sym (or-assoc bad _ _));
+      ordered = r .ordered ∙ rw (update-at b n h) (sym (or-assoc fallen _ _));
     }
-
-pub reads-end :
-    {b : List ℕ} {bad fallen : Bool} {before i : ℕ} → Reads b bad fallen before i → length b ≤ i →
-    (anyUpdate illFormed (updates b) ≡ bad) × (falls 0 (updates b) ≡ fallen)
-unfolding anyUpdate falls
-reads-end {b} {bad} {fallen} {before} {i} r h =
-    (r .formed ∙ rw (updates-end b i h) (or-false bad), r .ordered ∙ rw (updates-end b i h) (or-false fallen))
 
 -- the number that the code answers at each of its returns
 pub number-ragged : (b : List ℕ) → length b % 4 ≢ 0 → 6 ≡ batchNumber b
@@ -74,8 +81,8 @@ unfolding batchNumber firstOf
 number-long b h l = rw (eq-eqb (length b % 4) 0 h, lt-ltb 16384 (length b) l)
 
 pub number-read :
-    {b : List ℕ} {bad fallen : Bool} {before i : ℕ} → Reads b bad fallen before i → length b % 4 ≡ 0 → length b ≤ 16384 → length b ≤ i →
+    {b : List ℕ} {bad fallen : Bool} {before n : ℕ} → Reads b bad fallen before n → length b % 4 ≡ 0 → length b ≤ 16384 → length b / 4 ≤ n →
     batchNumber b ≡ cond bad 6 (cond fallen 7 0)
-unfolding batchNumber firstOf
-number-read {b} r h l e =
-    rw (eq-eqb (length b % 4) 0 h, le-ltb 16384 (length b) l, reads-end r e .0, reads-end r e .1)
+unfolding batchNumber firstOf anyUpdate falls
+number-read {b} {bad} {fallen} {before} {n} r h l e =
+    rw (eq-eqb (length b % 4) 0 h, le-ltb 16384 (length b) l, r .formed, r .ordered, update-end b n e, or-false bad, or-false fallen)

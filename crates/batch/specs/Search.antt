@@ -1,12 +1,23 @@
--- What the searches over a batch answer.
-use Prim.Native.Nat.{ℕ, suc, _+_, _<_}
-use mathlib.Core.Bool.{Bool, cond, _&&_}
+-- What the code's walks over a batch answer.
+use Prim.Native.Nat.{ℕ, suc, max, _+_, _*_, _<_}
+use mathlib.Core.Bool.{Bool, cond, _&&_, not}
 use mathlib.Core.List.{List, [], _∷_}
-use lib.ListN.{drop}
+use lib.ListN.{length, drop, getD}
 use lib.Dec.{ltb, leb, eqb}
 use Rattle.pair.specs.Rank.{rank}
 use Rattle.batch.specs.declared.Addition.{Addition}
+use Rattle.batch.specs.declared.Cursor.{Cursor}
+use Rattle.batch.specs.declared.Decision.{Decision}
+use Rattle.batch.specs.declared.Record.{Record}
 use Rattle.batch.specs.Batch.{Update, updates}
+
+-- the record n, and the update that a record is
+abbrev pub recordAt : List ℕ → ℕ → Record
+recordAt b n =
+    record { kind = getD b (n * 4) 0; term = getD b (n * 4 + 1) 0; from = getD b (n * 4 + 2) 0; to = getD b (n * 4 + 3) 0 }
+
+abbrev pub updateOf : Record → Update
+updateOf u = record { kind = u .kind; term = u .term; from = u .from; to = u .to }
 
 -- its words are 32-bit words
 pub record OfWords (u : Update) : Type 0 where
@@ -14,6 +25,10 @@ pub record OfWords (u : Update) : Type 0 where
   pub termWord : u .term < 4294967296
   pub fromWord : u .from < 4294967296
   pub toWord : u .to < 4294967296
+
+-- the lesser of two, where 0 stands for none
+unfoldable pub lesser : ℕ → ℕ → ℕ
+lesser a b = cond (eqb a 0) b (cond (eqb b 0) a (cond (leb a b) a b))
 
 -- the update adds a pair above k
 unfoldable pub addsAbove : ℕ → Update → Bool
@@ -33,16 +48,35 @@ beforeAdded k (u ∷ us) = cond (addsAbove k u) 0 (suc (beforeAdded k us))
 unfoldable pub nextAddition : List ℕ → ℕ → ℕ → Addition
 nextAddition b n k = record { at = n + beforeAdded k (drop n (updates b)); rank = firstAdded k (drop n (updates b)) }
 
--- how many updates stand before the first that reaches to x: whose last pair is not below it
-unfoldable pub beforeReaching : ℕ → List Update → ℕ
-beforeReaching x [] = 0
-beforeReaching x (u ∷ us) = cond (leb x (rank (u .term) (u .to))) 0 (suc (beforeReaching x us))
-
--- the first record from n on that reaches to x
-unfoldable pub firstReaching : List ℕ → ℕ → ℕ → ℕ
-firstReaching b n x = n + beforeReaching x (drop n (updates b))
-
--- the updates up to the first that starts above x: in a batch in order, all that can do anything to x
+-- the leading updates that start at or below x
 unfoldable pub startingTo : ℕ → List Update → List Update
 startingTo x [] = []
 startingTo x (u ∷ us) = cond (ltb x (rank (u .term) (u .from))) [] (u ∷ startingTo x us)
+
+-- the greatest pair that a removal reaches to, or k
+unfoldable pub reachWith : Update → ℕ → ℕ
+reachWith u k = cond (eqb (u .kind) 2 && ltb k (rank (u .term) (u .to))) (rank (u .term) (u .to)) k
+
+unfoldable pub reachOf : ℕ → List Update → ℕ
+reachOf k [] = k
+reachOf k (u ∷ us) = reachOf (reachWith u k) us
+
+-- the pair of the last addition, or k
+unfoldable pub addedWith : Update → ℕ → ℕ
+addedWith u k = cond (eqb (u .kind) 1) (rank (u .term) (u .from)) k
+
+unfoldable pub addedOf : ℕ → List Update → ℕ
+addedOf k [] = k
+addedOf k (u ∷ us) = addedOf (addedWith u k) us
+
+-- the cursor behind updates
+unfoldable pub behind : Cursor → List Update → Cursor
+behind k us = record { next = k .next + length us; reach = reachOf (k .reach) us; added = addedOf (k .added) us }
+
+-- what is decided of a pair at a cursor: a removal reaches to it, and it is not the last one added
+abbrev pub decision : Cursor → ℕ → Decision
+decision k x = record { cursor = k; withdrawn = leb x (k .reach) && not (eqb x (k .added)) }
+
+-- the same behind the further updates that start at or below the pair
+unfoldable pub decided : List ℕ → Cursor → ℕ → Decision
+decided b k x = decision (behind k (startingTo x (drop (k .next) (updates b)))) x

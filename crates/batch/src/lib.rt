@@ -1,8 +1,10 @@
 // A batch of updates: records of four words, kind, term, from and to.
 ghost use mathlib.Core.Path.{_≡_};
-ghost use lib.ListN.{drop};
-ghost use Rattle.batch.specs.Batch.{updates, withdrawn, illFormed, batchNumber};
-ghost use Rattle.batch.specs.Search.{firstReaching, nextAddition, startingTo};
+ghost use Prim.Native.Nat.{_/_, _<_};
+ghost use lib.ListN.{length};
+ghost use Rattle.pair.specs.Rank.{rank};
+ghost use Rattle.batch.specs.Batch.{illFormed, batchNumber};
+ghost use Rattle.batch.specs.Search.{recordAt, updateOf, nextAddition, reachWith, addedWith, decided};
 use pair::Pair;
 
 // The words of a record, and the most words of a batch: 4,096 records.
@@ -19,10 +21,46 @@ const ILL_FORMED: u32 = 6;
 
 const ORDER_FALLS: u32 = 7;
 
-// Whether a record is ill formed.
-fn ill_formed(kind: u32, term: u32, from: u32, to: u32) -> bool
-    ensures { λ r. ⌜ r ≡ illFormed (record { kind = kind; term = term; from = from; to = to }) ⌝ }
+// A record of a batch.
+struct Record {
+    kind: u32,
+    term: u32,
+    from: u32,
+    to: u32,
+}
+
+// The record with a number, from 0.
+fn record_at(batch: &[u32], n: usize) -> Record
+    requires { ⌜ n < length (now batch) / 4 ⌝ }
+    ensures { λ r. ⌜ r ≡ recordAt (now (batch .entry)) n ⌝ }
 {
+    let i = n * RECORD_WORDS;
+    Record {
+        kind: batch[i],
+        term: batch[i + 1],
+        from: batch[i + 2],
+        to: batch[i + 3],
+    }
+}
+
+// The rank of the first pair that a record names.
+fn first_rank(u: Record) -> u64
+    ensures { λ r. ⌜ r ≡ rank (u .term) (u .from) ⌝ }
+{
+    let term = u.term;
+    let position = u.from;
+    let pair = Pair { term, position };
+    pair.rank()
+}
+
+// Whether a record is ill formed.
+fn ill_formed(u: Record) -> bool
+    ensures { λ r. ⌜ r ≡ illFormed (updateOf u) ⌝ }
+{
+    let kind = u.kind;
+    let term = u.term;
+    let from = u.from;
+    let to = u.to;
     !((kind == ADDS) | (kind == REMOVES))
         | (term == 0)
         | (from == 0)
@@ -44,21 +82,14 @@ pub fn batch_number(batch: &[u32]) -> u32
     let mut bad = false;
     let mut fallen = false;
     let mut before: u64 = 0;
-    let mut i: usize = 0;
-    while i < batch.len() {
-        let kind = batch[i];
-        let term = batch[i + 1];
-        let from = batch[i + 2];
-        let to = batch[i + 3];
-        let pair = Pair {
-            term,
-            position: from,
-        };
-        let rank = pair.rank();
-        bad = bad | ill_formed(kind, term, from, to);
+    let mut n: usize = 0;
+    while n < batch.len() / RECORD_WORDS {
+        let u = record_at(batch, n);
+        let rank = first_rank(u);
+        bad = bad | ill_formed(u);
         fallen = fallen | (rank < before);
         before = rank;
-        i += RECORD_WORDS;
+        n += 1;
     }
     if bad {
         return ILL_FORMED;
@@ -81,14 +112,9 @@ pub fn next_addition(batch: &[u32], from: usize, above: u64) -> Addition
 {
     let mut n = from;
     while n < batch.len() / RECORD_WORDS {
-        let i = n * RECORD_WORDS;
-        let kind = batch[i];
-        let pair = Pair {
-            term: batch[i + 1],
-            position: batch[i + 2],
-        };
-        let rank = pair.rank();
-        if (kind == ADDS) & (above < rank) {
+        let u = record_at(batch, n);
+        let rank = first_rank(u);
+        if (u.kind == ADDS) & (above < rank) {
             return Addition { at: n, rank };
         }
         n += 1;
@@ -96,53 +122,69 @@ pub fn next_addition(batch: &[u32], from: usize, above: u64) -> Addition
     Addition { at: n, rank: 0 }
 }
 
-// The first record from a number on that reaches to a rank: its last pair is not below it.
-pub fn first_reaching(batch: &[u32], from: usize, rank: u64) -> usize
-    ensures { λ r. ⌜ r ≡ firstReaching (now (batch .entry)) from rank ⌝ }
-{
-    let mut n = from;
-    while n < batch.len() / RECORD_WORDS {
-        let i = n * RECORD_WORDS;
-        let last = Pair {
-            term: batch[i + 1],
-            position: batch[i + 3],
-        };
-        let high = last.rank();
-        if rank <= high {
-            return n;
-        }
-        n += 1;
-    }
-    n
+// A place in the batch for questions with rising ranks: the next record, the greatest rank that the removals before it reach to, and
+// the rank of the last addition before it.
+pub struct Cursor {
+    pub next: usize,
+    pub reach: u64,
+    pub added: u64,
 }
 
-// Whether the records from a number on, up to the first that starts beyond the pair, take the pair away: they remove it and do not add it.
-pub fn withdrawn(batch: &[u32], start: usize, rank: u64) -> bool
-    ensures { λ r. ⌜ r ≡ withdrawn (startingTo rank (drop start (updates (now (batch .entry))))) rank ⌝ }
+pub const START: Cursor = Cursor {
+    next: 0,
+    reach: 0,
+    added: 0,
+};
+
+// Whether the batch withdraws a pair, and the cursor behind it.
+pub struct Decision {
+    pub cursor: Cursor,
+    pub withdrawn: bool,
+}
+
+// The rank that the removals reach to, with one record more.
+fn reach_with(u: Record, reach: u64) -> u64
+    ensures { λ r. ⌜ r ≡ reachWith (updateOf u) reach ⌝ }
 {
-    let mut removed = false;
-    let mut added = false;
-    let mut n = start;
-    while n < batch.len() / RECORD_WORDS {
-        let i = n * RECORD_WORDS;
-        let kind = batch[i];
-        let term = batch[i + 1];
-        let first = Pair {
-            term,
-            position: batch[i + 2],
-        };
-        let last = Pair {
-            term,
-            position: batch[i + 3],
-        };
-        let low = first.rank();
-        let high = last.rank();
-        if rank < low {
-            return removed & !added;
-        }
-        removed = removed | ((kind == REMOVES) & (rank <= high));
-        added = added | ((kind == ADDS) & (rank == low));
-        n += 1;
+    let last = Pair {
+        term: u.term,
+        position: u.to,
+    };
+    let rank = last.rank();
+    if (u.kind == REMOVES) & (reach < rank) {
+        return rank;
     }
-    removed & !added
+    reach
+}
+
+// The rank of the last addition, with one record more.
+fn added_with(u: Record, added: u64) -> u64
+    ensures { λ r. ⌜ r ≡ addedWith (updateOf u) added ⌝ }
+{
+    if u.kind == ADDS {
+        return first_rank(u);
+    }
+    added
+}
+
+// Decides a pair: reads the records that start at or below it, and says whether one of those begun reaches to it while none adds it.
+pub fn decide(batch: &[u32], cursor: Cursor, rank: u64) -> Decision
+    ensures { λ r. ⌜ r ≡ decided (now (batch .entry)) cursor rank ⌝ }
+{
+    let mut next = cursor.next;
+    let mut reach = cursor.reach;
+    let mut added = cursor.added;
+    while next < batch.len() / RECORD_WORDS {
+        let u = record_at(batch, next);
+        if rank < first_rank(u) {
+            break;
+        }
+        reach = reach_with(u, reach);
+        added = added_with(u, added);
+        next += 1;
+    }
+    Decision {
+        cursor: Cursor { next, reach, added },
+        withdrawn: (rank <= reach) & (rank != added),
+    }
 }
