@@ -1,6 +1,7 @@
 pub mod Due
 pub mod Entries
 pub mod Filling
+pub mod Holding
 pub mod Packing
 pub mod Reading
 pub mod Scanning

@@ -1,3 +1,4 @@
 pub mod Block
+pub mod Packing
 pub mod Scan
 pub mod Wanted

@@ -1,10 +1,10 @@
 // A pair of a term and a position, ordered by term, then position. Its rank is the pair as one number in the same order.
 ghost use mathlib.Core.Path.{_≡_};
 ghost use Rattle.pair.specs.Bounds.{lowest, highest, isPair};
-ghost use Rattle.pair.specs.Rank.{rank};
+ghost use Rattle.pair.specs.Rank.{rank, term, position};
 
 // Ranks of one term lie in one stretch of this many numbers.
-pub const TERM_STRETCH: u64 = 4_294_967_296;
+const TERM_STRETCH: u64 = 4_294_967_296;
 
 pub struct Pair {
     pub term: u32,
@@ -29,6 +29,15 @@ impl Pair {
         let term = self.term;
         let position = self.position;
         term as u64 * TERM_STRETCH + position as u64
+    }
+
+    // The pair that has a rank.
+    pub fn of_rank(rank: u64) -> Pair
+        ensures { λ r. ⌜ r ≡ record { term = term rank; position = position rank } ⌝ }
+    {
+        let term = (rank / TERM_STRETCH) as u32;
+        let position = (rank % TERM_STRETCH) as u32;
+        Pair { term, position }
     }
 }
 

@@ -3,21 +3,22 @@ use Prim.Native.Nat.{ℕ, zero, suc, _+_, _-_, _≤_, _<_}
 use native.Mathlib.Omega.{arith}
 use native.Mathlib.Nat.{add-zero}
 use mathlib.Core.Path.{_≡_, refl, sym, ap, subst, _∙_}
-use mathlib.Core.Bool.{Bool, true, false, cond}
+use mathlib.Core.Bool.{Bool, true, false, cond, _&&_, _||_, and-true, and-false}
 use mathlib.Core.Logic.{_≢_, _⊎_, inl, inr}
 use mathlib.Core.List.{List, [], _∷_, _++_, append-assoc, append-nil}
 use lib.ListN.{length, set, replicate, length-append, length-replicate, length-set}
 use lib.Seq.{set-at}
-use lib.Dec.{eqb}
-use borrow.Author.Tests.{eqb-true, eqb-false, ne-eqb}
+use lib.Dec.{ltb, leb, eqb}
+use borrow.Author.Tests.{eqb-true, eqb-false, eq-eqb, ne-eqb, leb-true, leb-false, le-leb, ltb-true, lt-ltb, lt-leb}
 use Rattle.pair.specs.Rank.{term, position, Proper}
 use Rattle.pair.specs.Rising.{last}
 use Rattle.pair.proofs.Rising.{last-append}
+use Rattle.pair.proofs.Tests.{and-left, and-right}
 use Rattle.block.specs.Block.{packedAfter, packed, leading, cost, blockOf}
+use Rattle.block.specs.declared.pack.Packing.{Packing}
+use Rattle.block.specs.Packing.{hasRoom, putWords, put}
 use Rattle.block.proofs.Size.{size, size-packed}
 use Rattle.block.proofs.Filling.{Opened, opened-first, opened-same, opened-other, size-snoc}
-use Rattle.update.specs.declared.packing.Packing.{Packing}
-use Rattle.update.specs.Packing.{Puts, putWords, putPacking}
 
 -- the entry in hand: its count stands after the words pre and the term, and the words used end with its positions ps
 pub record Entry (p : Packing) (ks : List ℕ) : Type 0 where
@@ -139,31 +140,94 @@ last-snoc ks x = last-append ks (x ∷ []) 0
 opened-next : {ks : List ℕ} {t : ℕ} {pre ps : List ℕ} → Opened ks t pre ps → (x : ℕ) → term x ≡ t → Opened (ks ++ x ∷ []) (term x) pre (ps ++ position x ∷ [])
 opened-next {ks} {t} {pre} {ps} o x h = subst (λ (u : ℕ). Opened (ks ++ x ∷ []) u pre (ps ++ position x ∷ [])) (sym h) (opened-same o x h)
 
+-- a pair that does not cost one word costs three
+pub cost-other : (t x : ℕ) → (cost t x ≡ 1 → ⊥) → cost t x ≡ 3
+cost-other t x h = go (eqb (term x) t) refl
+  where
+    go : (s : Bool) → eqb (term x) t ≡ s → cost t x ≡ 3
+    go true e = absurd (h (rw e))
+    go false e = rw e
+
+-- what a pair that has room has
+pub record Room (n : ℕ) (p : Packing) (x : ℕ) : Type 0 where
+  pub few : n ≤ 1024
+  pub room : p .used + cost (term (p .last)) x ≤ n
+  pub counted : cost (term (p .last)) x ≢ 3 → p .count < p .used
+
+pub has-room : (n : ℕ) (p : Packing) (x : ℕ) → hasRoom n p x ≡ true → Room n p x
+unfolding hasRoom
+has-room n p x e =
+    let k = cost (term (p .last)) x in
+    let f = and-left (leb n 1024 && leb (p .used + k) n) (eqb k 3 || ltb (p .count) (p .used)) e in
+    record {
+      few = leb-true n 1024 (and-left (leb n 1024) (leb (p .used + k) n) f);
+      room = leb-true (p .used + k) n (and-right (leb n 1024) (leb (p .used + k) n) f);
+      counted = λ h. ltb-true (p .count) (p .used) (rw (ne-eqb k 3 h) at (and-right (leb n 1024 && leb (p .used + k) n) (eqb k 3 || ltb (p .count) (p .used)) e));
+    }
+
+-- the tests of the code, one after the other
+pub room-most : (n : ℕ) (p : Packing) (x : ℕ) → 1024 < n → false ≡ hasRoom n p x
+unfolding hasRoom
+room-most n p x h = rw (lt-leb n 1024 h)
+
+pub room-used : (n : ℕ) (p : Packing) (x : ℕ) → n < p .used → false ≡ hasRoom n p x
+unfolding hasRoom
+room-used n p x h = rw (lt-leb (p .used + cost (term (p .last)) x) n (omega arith), and-false (leb n 1024))
+
+pub room-left :
+    (n : ℕ) (p : Packing) (x : ℕ) → n ≤ 1024 → p .used ≤ n →
+    (leb (cost (term (p .last)) x) (n - p .used) && (eqb (cost (term (p .last)) x) 3 || ltb (p .count) (p .used))) ≡ hasRoom n p x
+unfolding hasRoom
+room-left n p x h l = rw (le-leb n 1024 h) (ap (λ (t : Bool). t && (eqb k 3 || ltb (p .count) (p .used))) (go (leb k (n - p .used)) refl))
+  where
+    k : ℕ
+    k = cost (term (p .last)) x
+
+    go : (t : Bool) → leb k (n - p .used) ≡ t → t ≡ leb (p .used + k) n
+    go true e = sym (le-leb (p .used + k) n (omega (arith, leb-true k (n - p .used) e)))
+    go false e = sym (lt-leb (p .used + k) n (omega (arith, leb-false k (n - p .used) e)))
+
+-- the entry in hand has the term of a pair that costs one word
+found : {ws : List ℕ} {p : Packing} {ks : List ℕ} → Holds ws p ks → (x : ℕ) → Proper x → term x ≡ term (p .last) → Entry p ks
+found {ws} {p} {ks} h x r t = go (h .entry)
+  where
+    go : (ks ≡ []) ⊎ Entry p ks → Entry p ks
+    go (inl e) =
+        let z : 0 ≡ p .last = unfold last in rw e at (h .lastPair) in
+        absurd (omega (arith, r .termLow))
+    go (inr e) = e
+
+-- a pair has room in the block in hand exactly where it costs no more than the words left
+pub holds-room :
+    {ws : List ℕ} {p : Packing} {ks : List ℕ} → Holds ws p ks → (x : ℕ) → Proper x → length ws ≤ 1024 →
+    hasRoom (length ws) p x ≡ leb (p .used + cost (term (p .last)) x) (length ws)
+unfolding hasRoom
+holds-room {ws} {p} {ks} h x r l = rw (le-leb (length ws) 1024 l) (go (eqb (term x) (term (p .last))) refl)
+  where
+    go : (s : Bool) → eqb (term x) (term (p .last)) ≡ s →
+        (leb (p .used + cond s 1 3) (length ws) && (eqb (cond s 1 3) 3 || ltb (p .count) (p .used))) ≡ leb (p .used + cond s 1 3) (length ws)
+    go true e =
+        let a = found h x r (eqb-true (term x) (term (p .last)) e) in
+        rw (lt-ltb (p .count) (p .used) (omega (arith, a .counted, a .ends))) (and-true _)
+    go false e = and-true _
+
 -- a pair put into the words
 pub holds-put :
-    {ws : List ℕ} {p : Packing} {ks : List ℕ} → Holds ws p ks → (x : ℕ) → Proper x → p .used + cost (term (p .last)) x ≤ length ws →
-    Holds (putWords ws p x true) (putPacking p x true) (ks ++ x ∷ [])
-unfolding putWords putPacking
-holds-put {ws} {p} {ks} h x r l = go (eqb (term x) (term (p .last))) refl l sized
+    {ws : List ℕ} {p : Packing} {ks : List ℕ} → Holds ws p ks → (x : ℕ) → Proper x → hasRoom (length ws) p x ≡ true →
+    Holds (putWords ws p x) (put (length ws) p x .packing) (ks ++ x ∷ [])
+unfolding putWords put
+holds-put {ws} {p} {ks} h x r l = go (eqb (term x) (term (p .last))) refl (has-room (length ws) p x l .room) sized
   where
     sized : size 0 (ks ++ x ∷ []) ≡ p .used + cost (term (p .last)) x
     sized = size-snoc 0 ks x ∙ rw (h .sized, h .lastPair)
 
-    found : term x ≡ term (p .last) → (ks ≡ []) ⊎ Entry p ks → Entry p ks
-    found t (inl e) =
-        let z : 0 ≡ p .last = unfold last in rw e at (h .lastPair) in
-        absurd (omega (arith, r .termLow))
-    found t (inr e) = e
-
     go : (s : Bool) → eqb (term x) (term (p .last)) ≡ s → p .used + cond s 1 3 ≤ length ws → size 0 (ks ++ x ∷ []) ≡ p .used + cond s 1 3 →
-        Holds
-        (cond s (set (set ws (p .used) (position x)) (p .count) (p .used - p .count)) (set (set (set ws (p .used) (term x)) (p .used + 1) 1) (p .used + 2) (position x)))
-        (cond s (record { used = p .used + 1; last = x; count = p .count }) (record { used = p .used + 3; last = x; count = p .used + 1 })) (ks ++ x ∷ [])
+        Holds (putWords ws p x) (put (length ws) p x .packing) (ks ++ x ∷ [])
     go true e n z =
         let t : term x ≡ term (p .last) = eqb-true (term x) (term (p .last)) e in
-        let a = found t (h .entry) in
+        let a = found h x r t in
         let k : length (set (set ws (p .used) (position x)) (p .count) (p .used - p .count)) ≡ length ws = length-set (set ws (p .used) (position x)) (p .count) (p .used - p .count) ∙ length-set ws (p .used) (position x) in
-        record {
+        rw (l, e) record {
           inside = rw k n;
           sized = z;
           lastPair = last-snoc ks x;
@@ -181,25 +245,13 @@ holds-put {ws} {p} {ks} h x r l = go (eqb (term x) (term (p .last))) refl l size
         let a = entry-other {x = x} (h .entry) (h .sized) (omega (arith, r .termLow)) t in
         let k : length (set (set (set ws (p .used) (term x)) (p .used + 1) 1) (p .used + 2) (position x)) ≡ length ws
         = length-set (set (set ws (p .used) (term x)) (p .used + 1) 1) (p .used + 2) (position x) ∙ length-set (set ws (p .used) (term x)) (p .used + 1) 1 ∙ length-set ws (p .used) (term x) in
-        record {
+        rw (l, e) record {
           inside = rw k n;
           sized = z;
           lastPair = last-snoc ks x;
           words = rw k (put-other ws p ks x h (a .0) n);
           entry = inr (a .1);
         }
-
--- what `put` asks
-pub holds-puts :
-    {ws : List ℕ} {p : Packing} {ks : List ℕ} → Holds ws p ks → (x : ℕ) (kept : Bool) → length ws ≤ 1024 → (kept ≡ true → Proper x) →
-    (kept ≡ true → p .used + cost (term (p .last)) x ≤ length ws) → Puts ws p x kept
-holds-puts {ws} {p} {ks} h x kept l r n = record { few = l; room = n; counted = λ k. counted (h .entry) (r k) }
-  where
-    counted : (ks ≡ []) ⊎ Entry p ks → Proper x → term x ≡ term (p .last) → p .count < p .used
-    counted (inl e) q t =
-        let z : 0 ≡ p .last = unfold last in rw e at (h .lastPair) in
-        absurd (omega (arith, q .termLow))
-    counted (inr e) q t = omega (arith, e .counted, e .ends)
 
 -- the block that the words are
 pub holds-block : {ws : List ℕ} {p : Packing} {ks : List ℕ} → Holds ws p ks → ws ≡ blockOf (length ws) ks
