@@ -12,13 +12,9 @@ use Rattle.pair.proofs.Tests.{or-left, or-right}
 use Rattle.batch.specs.declared.Cursor.{Cursor}
 use Rattle.batch.specs.declared.Decision.{Decision}
 use Rattle.batch.specs.Batch.{Update, updates, anyUpdate, removes, adds, withdrawn, falls, batchNumber}
-use Rattle.batch.specs.Search.{startingTo, reachWith, reachOf, addedWith, addedOf, behind, decision, decided}
+use Rattle.batch.specs.Search.{startingTo, reachWith, reachOf, addedWith, addedOf, behind, decision, decided, start, asked, Follows}
 use Rattle.batch.proofs.InOrder.{inOrder}
 use Rattle.batch.proofs.Search.{falls-lower}
-
--- the cursor that questions up to the rank k leave
-unfoldable pub asked : List ℕ → ℕ → Cursor
-asked b k = behind (record { next = 0; reach = 0; added = 0 }) (startingTo k (updates b))
 
 -- further updates behind a cursor
 reach-append : (us vs : List Update) (k : ℕ) → reachOf k (us ++ vs) ≡ reachOf (reachOf k us) vs
@@ -148,11 +144,8 @@ adds-last (u ∷ us) x k e = go (ltb x here) refl (eqb (u .kind) 1) refl (adds-l
     go false f true g ih jh = put true g ∙ (ih ∙ (unfold adds in rw g (later (ltb-false x here f) (eqb x k) refl)))
     go false f false g ih jh = put false g ∙ (jh ∙ (unfold adds in rw g))
 
--- the cursor follows questions up to k: what is decided at it of a later pair is decided behind all updates that start at or below that
-pub record Follows (b : List ℕ) (k : ℕ) (cursor : Cursor) : Type 0 where
-  pub decides : (x : ℕ) → k ≤ x → decided b cursor x ≡ decision (asked b x) x
-
-pub follows-start : (b : List ℕ) (k : ℕ) → Follows b k (record { next = 0; reach = 0; added = 0 })
+-- before the first question
+pub follows-start : (b : List ℕ) (k : ℕ) → Follows b k start
 unfolding decided asked
 follows-start b k = record { decides = λ x h. refl }
 

@@ -15,50 +15,39 @@ use Rattle.pair.proofs.Rising.{rises}
 use Rattle.pair.proofs.Keep.{keep-cons}
 use Rattle.pair.proofs.Parts.{above-keep, Each-above, rises-next}
 use Rattle.batch.specs.Batch.{Update, withdrawn, withAdded, applied, falls}
+use Rattle.batch.specs.Search.{lesser, addsAbove, leastAdded}
 use Rattle.batch.proofs.Meaning.{rises-withAdded}
 
 -- the first element above k, 0 for none
 unfoldable pub firstAbove : ℕ → List ℕ → ℕ
 firstAbove k xs = getD (above k xs) 0 0
 
--- the lesser of two, where 0 stands for none
-unfoldable pub earlier : ℕ → ℕ → ℕ
-earlier zero b = b
-earlier (suc a) zero = suc a
-earlier (suc a) (suc b) = suc (min a b)
-
--- the least pair above k that the batch adds, 0 for none
-unfoldable pub leastAdded : ℕ → List Update → ℕ
-leastAdded k [] = 0
-leastAdded k (u ∷ us) =
-    cond (eqb (u .kind) 1 && ltb k (rank (u .term) (u .from))) (earlier (rank (u .term) (u .from)) (leastAdded k us)) (leastAdded k us)
-
 -- the lesser of a number and none is the number
-pub earlier-none : (a : ℕ) → earlier a 0 ≡ a
-unfolding earlier
-earlier-none zero = refl
-earlier-none (suc a) = refl
+pub lesser-none : (a : ℕ) → lesser a 0 ≡ a
+unfolding lesser
+lesser-none zero = refl
+lesser-none (suc a) = refl
 
 -- of two numbers it is the lesser
-pub earlier-left : (a b : ℕ) → 0 < a → a ≤ b → earlier a b ≡ a
-unfolding earlier
-earlier-left zero b p h = absurd (omega arith)
-earlier-left (suc a) zero p h = refl
-earlier-left (suc a) (suc b) p h = omega arith
+pub lesser-left : (a b : ℕ) → 0 < a → a ≤ b → lesser a b ≡ a
+unfolding lesser
+lesser-left zero b p h = absurd (omega arith)
+lesser-left (suc a) zero p h = refl
+lesser-left (suc a) (suc b) p h = omega arith
 
-pub earlier-right : (a b : ℕ) → 0 < b → b ≤ a → earlier a b ≡ b
-unfolding earlier
-earlier-right zero b p h = refl
-earlier-right (suc a) zero p h = absurd (omega arith)
-earlier-right (suc a) (suc b) p h = omega arith
+pub lesser-right : (a b : ℕ) → 0 < b → b ≤ a → lesser a b ≡ b
+unfolding lesser
+lesser-right zero b p h = refl
+lesser-right (suc a) zero p h = absurd (omega arith)
+lesser-right (suc a) (suc b) p h = omega arith
 
 -- of three it is the least, however they are taken
-pub earlier-assoc : (a b c : ℕ) → earlier (earlier a b) c ≡ earlier a (earlier b c)
-unfolding earlier
-earlier-assoc zero b c = refl
-earlier-assoc (suc a) zero c = refl
-earlier-assoc (suc a) (suc b) zero = refl
-earlier-assoc (suc a) (suc b) (suc c) = omega arith
+pub lesser-assoc : (a b c : ℕ) → lesser (lesser a b) c ≡ lesser a (lesser b c)
+unfolding lesser
+lesser-assoc zero b c = refl
+lesser-assoc (suc a) zero c = refl
+lesser-assoc (suc a) (suc b) zero = refl
+lesser-assoc (suc a) (suc b) (suc c) = omega arith
 
 -- the first element is the first above k, or is passed over
 pub firstAbove-cons : (k x : ℕ) (xs : List ℕ) → firstAbove k (x ∷ xs) ≡ cond (ltb k x) x (firstAbove k xs)
@@ -70,9 +59,9 @@ firstAbove-cons k x xs = go (ltb k x)
     go false = refl
 
 -- the first above k where a number is put in
-pub firstAbove-insert : (xs : List ℕ) (k n : ℕ) → firstAbove k (insert n xs) ≡ cond (ltb k n) (earlier n (firstAbove k xs)) (firstAbove k xs)
+pub firstAbove-insert : (xs : List ℕ) (k n : ℕ) → firstAbove k (insert n xs) ≡ cond (ltb k n) (lesser n (firstAbove k xs)) (firstAbove k xs)
 unfolding insert
-firstAbove-insert [] k n = firstAbove-cons k n [] ∙ rw (none k, earlier-none n)
+firstAbove-insert [] k n = firstAbove-cons k n [] ∙ rw (none k, lesser-none n)
   where
     none : (j : ℕ) → firstAbove j [] ≡ 0
     none j = unfold firstAbove above keep in refl
@@ -81,57 +70,57 @@ firstAbove-insert (x ∷ xs) k n = go (compared n x) (firstAbove-insert xs k n)
     Goal : Type 0
     Goal =
         firstAbove k (cond (ltb n x) (n ∷ x ∷ xs) (cond (eqb n x) (x ∷ xs) (x ∷ insert n xs)))
-        ≡ cond (ltb k n) (earlier n (firstAbove k (x ∷ xs))) (firstAbove k (x ∷ xs))
+        ≡ cond (ltb k n) (lesser n (firstAbove k (x ∷ xs))) (firstAbove k (x ∷ xs))
 
-    front : n < x → (t : Bool) → ltb k n ≡ t → cond t n (firstAbove k (x ∷ xs)) ≡ cond t (earlier n (firstAbove k (x ∷ xs))) (firstAbove k (x ∷ xs))
+    front : n < x → (t : Bool) → ltb k n ≡ t → cond t n (firstAbove k (x ∷ xs)) ≡ cond t (lesser n (firstAbove k (x ∷ xs))) (firstAbove k (x ∷ xs))
     front l true e =
         let i : k < n = ltb-true k n e in
-        rw (firstAbove-cons k x xs, lt-ltb k x (omega arith)) (sym (earlier-left n x (omega arith) (omega arith)))
+        rw (firstAbove-cons k x xs, lt-ltb k x (omega arith)) (sym (lesser-left n x (omega arith) (omega arith)))
     front l false e = refl
 
-    same : n ≡ x → (t : Bool) → ltb k n ≡ t → firstAbove k (x ∷ xs) ≡ cond t (earlier n (firstAbove k (x ∷ xs))) (firstAbove k (x ∷ xs))
+    same : n ≡ x → (t : Bool) → ltb k n ≡ t → firstAbove k (x ∷ xs) ≡ cond t (lesser n (firstAbove k (x ∷ xs))) (firstAbove k (x ∷ xs))
     same l true e =
         let i : k < n = ltb-true k n e in
-        rw (firstAbove-cons k x xs, lt-ltb k x (omega arith)) (sym (earlier-right n x (omega arith) (omega arith)))
+        rw (firstAbove-cons k x xs, lt-ltb k x (omega arith)) (sym (lesser-right n x (omega arith) (omega arith)))
     same l false e = refl
 
-    later : x < n → (t : Bool) → ltb k x ≡ t → firstAbove k (insert n xs) ≡ cond (ltb k n) (earlier n (firstAbove k xs)) (firstAbove k xs)
-        → cond t x (firstAbove k (insert n xs)) ≡ cond (ltb k n) (earlier n (cond t x (firstAbove k xs))) (cond t x (firstAbove k xs))
+    later : x < n → (t : Bool) → ltb k x ≡ t → firstAbove k (insert n xs) ≡ cond (ltb k n) (lesser n (firstAbove k xs)) (firstAbove k xs)
+        → cond t x (firstAbove k (insert n xs)) ≡ cond (ltb k n) (lesser n (cond t x (firstAbove k xs))) (cond t x (firstAbove k xs))
     later l true e ih =
         let i : k < x = ltb-true k x e in
-        rw (lt-ltb k n (omega arith)) (sym (earlier-right n x (omega arith) (omega arith)))
+        rw (lt-ltb k n (omega arith)) (sym (lesser-right n x (omega arith) (omega arith)))
     later l false e ih = ih
 
-    go : (n < x) ⊎ ((n ≡ x) ⊎ (x < n)) → firstAbove k (insert n xs) ≡ cond (ltb k n) (earlier n (firstAbove k xs)) (firstAbove k xs) → Goal
+    go : (n < x) ⊎ ((n ≡ x) ⊎ (x < n)) → firstAbove k (insert n xs) ≡ cond (ltb k n) (lesser n (firstAbove k xs)) (firstAbove k xs) → Goal
     go (inl l) ih = rw (lt-ltb n x l, firstAbove-cons k n (x ∷ xs)) (front l (ltb k n) refl)
     go (inr (inl l)) ih = rw (le-ltb n x (omega arith), eq-eqb n x l) (same l (ltb k n) refl)
     go (inr (inr l)) ih =
         rw (le-ltb n x (omega arith), ne-eqb n x (omega arith), firstAbove-cons k x (insert n xs), firstAbove-cons k x xs)
         (later l (ltb k x) refl ih)
 
--- the first above k of the set with the added pairs: the least addition or the first of the set, whichever is earlier
-pub firstAbove-withAdded : (k : ℕ) (us : List Update) (s : List ℕ) → firstAbove k (withAdded us s) ≡ earlier (leastAdded k us) (firstAbove k s)
-unfolding withAdded leastAdded
-firstAbove-withAdded k [] s = unfold earlier in refl
+-- the first above k of the set with the added pairs: the least addition or the first of the set, whichever is lesser
+pub firstAbove-withAdded : (k : ℕ) (us : List Update) (s : List ℕ) → firstAbove k (withAdded us s) ≡ lesser (leastAdded k us) (firstAbove k s)
+unfolding withAdded leastAdded addsAbove
+firstAbove-withAdded k [] s = unfold lesser in refl
 firstAbove-withAdded k (u ∷ us) s = go (eqb (u .kind) 1) (firstAbove-withAdded k us s)
   where
     here : ℕ
     here = rank (u .term) (u .from)
 
-    put : (t : Bool) → cond t (earlier here (earlier (leastAdded k us) (firstAbove k s))) (earlier (leastAdded k us) (firstAbove k s))
-        ≡ earlier (cond t (earlier here (leastAdded k us)) (leastAdded k us)) (firstAbove k s)
-    put true = sym (earlier-assoc here (leastAdded k us) (firstAbove k s))
+    put : (t : Bool) → cond t (lesser here (lesser (leastAdded k us) (firstAbove k s))) (lesser (leastAdded k us) (firstAbove k s))
+        ≡ lesser (cond t (lesser here (leastAdded k us)) (leastAdded k us)) (firstAbove k s)
+    put true = sym (lesser-assoc here (leastAdded k us) (firstAbove k s))
     put false = refl
 
-    go : (t : Bool) → firstAbove k (withAdded us s) ≡ earlier (leastAdded k us) (firstAbove k s)
+    go : (t : Bool) → firstAbove k (withAdded us s) ≡ lesser (leastAdded k us) (firstAbove k s)
         → firstAbove k (cond t (insert here (withAdded us s)) (withAdded us s))
-        ≡ earlier (cond (t && ltb k here) (earlier here (leastAdded k us)) (leastAdded k us)) (firstAbove k s)
+        ≡ lesser (cond (t && ltb k here) (lesser here (leastAdded k us)) (leastAdded k us)) (firstAbove k s)
     go true ih = firstAbove-insert (withAdded us s) k here ∙ rw ih (put (ltb k here))
     go false ih = ih
 
 -- the updates of a batch in order stand rising, so its first addition above k is the least
 pub leastAdded-low : (us : List Update) (x k : ℕ) → falls x us ≡ false → (leastAdded k us ≡ 0) ⊎ (x ≤ leastAdded k us)
-unfolding leastAdded falls
+unfolding leastAdded addsAbove falls
 leastAdded-low [] x k h = inl refl
 leastAdded-low (u ∷ us) x k h =
     go (eqb (u .kind) 1 && ltb k here) refl
@@ -144,29 +133,29 @@ leastAdded-low (u ∷ us) x k h =
     low = ltb-false here x (or-left (ltb here x) (falls here us) h)
 
     go : (t : Bool) → (eqb (u .kind) 1 && ltb k here) ≡ t → (leastAdded k us ≡ 0) ⊎ (here ≤ leastAdded k us)
-        → (cond t (earlier here (leastAdded k us)) (leastAdded k us) ≡ 0) ⊎ (x ≤ cond t (earlier here (leastAdded k us)) (leastAdded k us))
-    go true e (inl z) = inr (rw (z, earlier-none here) low)
+        → (cond t (lesser here (leastAdded k us)) (leastAdded k us) ≡ 0) ⊎ (x ≤ cond t (lesser here (leastAdded k us)) (leastAdded k us))
+    go true e (inl z) = inr (rw (z, lesser-none here) low)
     go true e (inr l) =
         let i : k < here = ltb-true k here (and-right (eqb (u .kind) 1) (ltb k here) e) in
-        inr (rw (earlier-left here (leastAdded k us) (omega arith) l) low)
+        inr (rw (lesser-left here (leastAdded k us) (omega arith) l) low)
     go false e (inl z) = inl z
     go false e (inr l) = inr (omega (arith, low))
 
 -- so the search for the least ends at the first addition above k
 pub leastAdded-first : (u : Update) (us : List Update) (k : ℕ) → falls (rank (u .term) (u .from)) us ≡ false
     → leastAdded k (u ∷ us) ≡ cond (eqb (u .kind) 1 && ltb k (rank (u .term) (u .from))) (rank (u .term) (u .from)) (leastAdded k us)
-unfolding leastAdded
+unfolding leastAdded addsAbove
 leastAdded-first u us k h = go (eqb (u .kind) 1 && ltb k here) refl (leastAdded-low us here k h)
   where
     here : ℕ
     here = rank (u .term) (u .from)
 
     go : (t : Bool) → (eqb (u .kind) 1 && ltb k here) ≡ t → (leastAdded k us ≡ 0) ⊎ (here ≤ leastAdded k us)
-        → cond t (earlier here (leastAdded k us)) (leastAdded k us) ≡ cond t here (leastAdded k us)
-    go true e (inl z) = rw (z, earlier-none here)
+        → cond t (lesser here (leastAdded k us)) (leastAdded k us) ≡ cond t here (leastAdded k us)
+    go true e (inl z) = rw (z, lesser-none here)
     go true e (inr l) =
         let i : k < here = ltb-true k here (and-right (eqb (u .kind) 1) (ltb k here) e) in
-        earlier-left here (leastAdded k us) (omega arith) l
+        lesser-left here (leastAdded k us) (omega arith) l
     go false e q = refl
 
 -- one turn of the merge: with x the first above k of the set with the added pairs, the pairs above k of the set afterwards are x, unless

@@ -15,8 +15,8 @@ use Rattle.batch.specs.declared.Cursor.{Cursor}
 use Rattle.batch.specs.declared.Decision.{Decision}
 use Rattle.batch.specs.declared.Record.{Record}
 use Rattle.batch.specs.Batch.{Update, updates, anyUpdate, removes, adds, withdrawn, falls}
-use Rattle.batch.specs.Search.{recordAt, updateOf, addsAbove, firstAdded, beforeAdded, nextAddition, startingTo, reachWith, reachOf, addedWith, addedOf, behind, decision, decided}
-use Rattle.batch.proofs.Merge.{leastAdded, leastAdded-first, earlier}
+use Rattle.batch.specs.Search.{recordAt, updateOf, lesser, leastAdded, addsAbove, firstAdded, beforeAdded, nextAddition, startingTo, reachWith, reachOf, addedWith, addedOf, behind, decision, decided}
+use Rattle.batch.proofs.Merge.{leastAdded-first}
 use Rattle.batch.proofs.Records.{update-at, update-end}
 
 -- the search for an addition from a record on finds what the search from the record n on finds
@@ -75,7 +75,7 @@ leastAdded-before (u ∷ us) k j h = go (eqb (u .kind) 1 && ltb k here) refl (le
         false≢true (sym e ∙ and-both (eqb (u .kind) 1) (ltb k here) (and-left (eqb (u .kind) 1) (ltb j here) f) (lt-ltb k here (omega arith))))
 
     go : (t : Bool) → (eqb (u .kind) 1 && ltb k here) ≡ t → leastAdded j us ≡ leastAdded j (drop (beforeAdded k us) us)
-        → cond (eqb (u .kind) 1 && ltb j here) (earlier here (leastAdded j us)) (leastAdded j us)
+        → cond (eqb (u .kind) 1 && ltb j here) (lesser here (leastAdded j us)) (leastAdded j us)
         ≡ leastAdded j (drop (cond t 0 (suc (beforeAdded k us))) (u ∷ us))
     go true e ih = refl
     go false e ih = rw (low e) ih

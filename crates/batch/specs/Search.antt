@@ -1,5 +1,6 @@
 -- What the code's walks over a batch answer.
-use Prim.Native.Nat.{ℕ, suc, max, _+_, _*_, _<_}
+use Prim.Native.Nat.{ℕ, zero, suc, min, _+_, _*_, _≤_, _<_}
+use mathlib.Core.Path.{_≡_}
 use mathlib.Core.Bool.{Bool, cond, _&&_, not}
 use mathlib.Core.List.{List, [], _∷_}
 use lib.ListN.{length, drop, getD}
@@ -26,13 +27,20 @@ pub record OfWords (u : Update) : Type 0 where
   pub fromWord : u .from < 4294967296
   pub toWord : u .to < 4294967296
 
--- the lesser of two, where 0 stands for none
-unfoldable pub lesser : ℕ → ℕ → ℕ
-lesser a b = cond (eqb a 0) b (cond (eqb b 0) a (cond (leb a b) a b))
-
 -- the update adds a pair above k
 unfoldable pub addsAbove : ℕ → Update → Bool
 addsAbove k u = eqb (u .kind) 1 && ltb k (rank (u .term) (u .from))
+
+-- the lesser of two, where 0 stands for none
+unfoldable pub lesser : ℕ → ℕ → ℕ
+lesser zero b = b
+lesser (suc a) zero = suc a
+lesser (suc a) (suc b) = suc (min a b)
+
+-- the least pair above k that the batch adds, 0 for none
+unfoldable pub leastAdded : ℕ → List Update → ℕ
+leastAdded k [] = 0
+leastAdded k (u ∷ us) = cond (addsAbove k u) (lesser (rank (u .term) (u .from)) (leastAdded k us)) (leastAdded k us)
 
 -- the pair of the first update that adds one above k, 0 for none
 unfoldable pub firstAdded : ℕ → List Update → ℕ
@@ -80,3 +88,14 @@ decision k x = record { cursor = k; withdrawn = leb x (k .reach) && not (eqb x (
 -- the same behind the further updates that start at or below the pair
 unfoldable pub decided : List ℕ → Cursor → ℕ → Decision
 decided b k x = decision (behind k (startingTo x (drop (k .next) (updates b)))) x
+
+-- the cursor that questions up to the rank k leave
+abbrev pub start : Cursor
+start = record { next = 0; reach = 0; added = 0 }
+
+unfoldable pub asked : List ℕ → ℕ → Cursor
+asked b k = behind start (startingTo k (updates b))
+
+-- the cursor follows questions up to k: what is decided at it of a later pair is decided behind all updates that start at or below that
+pub record Follows (b : List ℕ) (k : ℕ) (cursor : Cursor) : Type 0 where
+  pub decides : (x : ℕ) → k ≤ x → decided b cursor x ≡ decision (asked b x) x

@@ -253,6 +253,41 @@ holds-put {ws} {p} {ks} h x r l = go (eqb (term x) (term (p .last))) refl (has-r
           entry = inr (a .1);
         }
 
+-- it is put exactly where it has room
+pub put-done : (n : ℕ) (p : Packing) (x : ℕ) → put n p x .done ≡ hasRoom n p x
+unfolding put
+put-done n p x = go (hasRoom n p x) refl (eqb (cost (term (p .last)) x) 1) refl
+  where
+    go : (s : Bool) → hasRoom n p x ≡ s → (t : Bool) → eqb (cost (term (p .last)) x) 1 ≡ t → put n p x .done ≡ hasRoom n p x
+    go true e true f = rw (e, f)
+    go true e false f = rw (e, f)
+    go false e t f = rw e
+
+pub put-none : (ws : List ℕ) (p : Packing) (x : ℕ) → hasRoom (length ws) p x ≡ false → putWords ws p x ≡ ws
+unfolding putWords
+put-none ws p x e = rw e
+
+-- the words stay as many
+pub length-put : (ws : List ℕ) (p : Packing) (x : ℕ) → length (putWords ws p x) ≡ length ws
+unfolding putWords
+length-put ws p x = go (hasRoom (length ws) p x) (eqb (cost (term (p .last)) x) 1)
+  where
+    go : (s t : Bool) →
+        length (cond s
+        (cond t (set (set ws (p .used) (position x)) (p .count) (p .used - p .count))
+        (set (set (set ws (p .used) (term x)) (p .used + 1) 1) (p .used + 2) (position x)))
+        ws) ≡ length ws
+    go true true = simp length-set
+    go true false = simp length-set
+    go false t = refl
+
+pub cost-high : (t x : ℕ) → cost t x ≤ 3
+cost-high t x = go (eqb (term x) t)
+  where
+    go : (s : Bool) → cond s 1 3 ≤ 3
+    go true = omega arith
+    go false = omega arith
+
 -- the block that the words are
 pub holds-block : {ws : List ℕ} {p : Packing} {ks : List ℕ} → Holds ws p ks → ws ≡ blockOf (length ws) ks
 unfolding blockOf

@@ -4,9 +4,9 @@ pub mod Configured
 pub mod Crowded
 pub mod Cursor
 pub mod Ends
+pub mod Fills
 pub mod Frame
 pub mod Grown
-pub mod Holding
 pub mod Merging
 pub mod Next
 pub mod Outcome

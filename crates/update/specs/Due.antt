@@ -1,19 +1,14 @@
 -- What filling the due block answers.
 use Prim.Native.Nat.{ℕ}
 use mathlib.Core.Path.{_≡_}
-use mathlib.Core.Bool.{cond}
 use mathlib.Core.List.{List}
 use lib.ListN.{length}
-use lib.Dec.{leb, eqb}
+use lib.Dec.{eqb}
 use Rattle.pair.specs.Rising.{last}
 use Rattle.block.specs.Block.{due, goesOn}
 use Rattle.card.specs.Layout.{blockSize}
 use Rattle.update.specs.declared.due.Due.{Due}
 use Rattle.update.specs.Step.{remains, dueBlock}
-
--- the lesser of two, where 0 stands for none
-abbrev pub lesser : ℕ → ℕ → ℕ
-lesser a b = cond (eqb a 0) b (cond (eqb b 0) a (cond (leb a b) a b))
 
 -- the words are the due block of what remains, and the answer is true of it
 pub record Answers (c r ws : List ℕ) (d : Due) : Type 0 where

@@ -1,6 +1,6 @@
 pub mod Answer
 pub mod Due
+pub mod Merge
 pub mod Old
-pub mod Packing
 pub mod Pass
 pub mod Step

@@ -1,36 +1,18 @@
-// What remains, one pair after the other, put into the due block until the next pair has no room.
+// The due block: what remains is put into it, one pair after the other, until the next pair has no room.
 ghost use mathlib.Core.Path.{_≡_};
 ghost use lib.ListN.{replicate};
 ghost use Rattle.card.specs.Layout.{blockSize};
 ghost use Rattle.card.specs.Sound.{judged};
 ghost use Rattle.batch.specs.Batch.{batchNumber};
-ghost use Rattle.update.specs.Due.{lesser, DueOf};
-use crate::old;
-use crate::packing;
-use crate::packing::Packing;
-use pair::Pair;
+ghost use Rattle.update.specs.Due.{DueOf};
+use crate::merge;
+use block::pack;
 
 // The due block: how many of its words are used, the rank of its last pair, 0 for none, and whether pairs stand beyond it.
 pub(crate) struct Due {
     pub(crate) used: usize,
     pub(crate) last: u64,
     pub(crate) more: bool,
-}
-
-// The lesser of two ranks, where 0 stands for none.
-fn lesser(a: u64, b: u64) -> u64
-    ensures { λ r. ⌜ r ≡ lesser a b ⌝ }
-{
-    if a == 0 {
-        return b;
-    }
-    if b == 0 {
-        return a;
-    }
-    if a <= b {
-        return a;
-    }
-    b
 }
 
 // Fills the words, which are 0 at first.
@@ -40,24 +22,11 @@ pub(crate) fn fill(card: &[u32], batch: &[u32], words: &mut [u32]) -> Due
     requires { ⌜ now words ≡ replicate (blockSize (now card)) 0 ⌝ }
     ensures { λ r. ⌜ DueOf (now (card .entry)) (now (batch .entry)) (now (words .exit)) r ⌝ }
 {
-    let boundary = Pair {
-        term: card[6],
-        position: card[7],
-    };
-    let mut passed = boundary.rank();
-    let mut at: usize = 0;
-    let mut start: usize = 0;
-    let mut old = old::first(card);
-    let mut packing = Packing {
-        used: 0,
-        last: 0,
-        count: 0,
-    };
+    let mut place = merge::start(card);
+    let mut packing = pack::EMPTY;
     loop {
-        old = old::skip(card, old, passed);
-        let addition = batch::next_addition(batch, at, passed);
-        at = addition.at;
-        let rank = lesser(addition.rank, old.rank);
+        place = merge::next(card, batch, place);
+        let rank = place.rank;
         let used = packing.used;
         let last = packing.last;
         if rank == 0 {
@@ -67,17 +36,14 @@ pub(crate) fn fill(card: &[u32], batch: &[u32], words: &mut [u32]) -> Due
                 more: false,
             };
         }
-        start = batch::first_reaching(batch, start, rank);
-        let kept = !batch::withdrawn(batch, start, rank);
-        let cost = packing::cost(packing, rank);
-        if kept & (words.len() - used < cost) {
+        let put = pack::put(words, packing, rank);
+        if !put.done {
             return Due {
                 used,
                 last,
                 more: true,
             };
         }
-        packing = packing::put(words, packing, rank, kept);
-        passed = rank;
+        packing = put.packing;
     }
 }

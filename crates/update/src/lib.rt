@@ -11,11 +11,11 @@ ghost use Rattle.update.specs.Answer.{numberOf, writeOf, freedOf, finish
 use card::CONFIGURATION_WORDS;
 use card::ENTRY_WIDTH;
 use due::Due;
-use pair::TERM_STRETCH;
+use pair::Pair;
 
 mod due;
+mod merge;
 mod old;
-mod packing;
 
 const BLOCK_MOST: usize = 1024;
 
@@ -118,12 +118,13 @@ fn configure(card: &mut [u32], start: u32, old: u32, new: u32, rank: u64)
     requires { ⌜ judged (now card) ≡ 0 ⌝ }
     ensures { λ _. ⌜ now (card .exit) ≡ configured (now (card .entry)) start old new rank ⌝ }
 {
+    let bound = Pair::of_rank(rank);
     let places = card[2];
     card[3] = start % places;
     card[4] = old;
     card[5] = new;
-    card[6] = (rank / TERM_STRETCH) as u32;
-    card[7] = (rank % TERM_STRETCH) as u32;
+    card[6] = bound.term;
+    card[7] = bound.position;
 }
 
 // How many old places the configuration write frees.

@@ -1,0 +1,88 @@
+// What remains, one pair after the other: the old pairs and the additions above the boundary, less those that the batch withdraws.
+ghost use mathlib.Core.Path.{_≡_};
+ghost use Rattle.card.specs.Sound.{judged};
+ghost use Rattle.batch.specs.Batch.{batchNumber};
+ghost use Rattle.batch.specs.Search.{lesser};
+ghost use Rattle.update.specs.Merge.{Begun, Merges, Merged};
+use crate::old;
+use crate::old::OldCursor;
+use pair::Pair;
+
+// A place in the merge: the rank of the pair in hand, before the first pair the boundary's, 0 at the end; the old pairs, the record from which
+// additions are sought, and the cursor of decisions.
+pub(crate) struct Merge {
+    pub(crate) rank: u64,
+    pub(crate) old: OldCursor,
+    pub(crate) addition: usize,
+    pub(crate) decisions: batch::Cursor,
+}
+
+// The lesser of two ranks, where 0 stands for none.
+fn lesser(a: u64, b: u64) -> u64
+    ensures { λ r. ⌜ r ≡ lesser a b ⌝ }
+{
+    if a == 0 {
+        return b;
+    }
+    if b == 0 {
+        return a;
+    }
+    if a <= b {
+        return a;
+    }
+    b
+}
+
+// Before the first pair.
+pub(crate) fn start(card: &[u32]) -> Merge
+    requires { ⌜ judged (now card) ≡ 0 ⌝ }
+    ensures { λ r. ⌜ Begun (now (card .entry)) r ⌝ }
+{
+    let boundary = Pair {
+        term: card[6],
+        position: card[7],
+    };
+    Merge {
+        rank: boundary.rank(),
+        old: old::first(card),
+        addition: 0,
+        decisions: batch::START,
+    }
+}
+
+// The next pair.
+pub(crate) fn next(card: &[u32], batch: &[u32], merge: Merge) -> Merge
+    requires { ⌜ judged (now card) ≡ 0 ⌝ }
+    requires { ⌜ batchNumber (now batch) ≡ 0 ⌝ }
+    requires { ⌜ Merges (now card) (now batch) merge ⌝ }
+    ensures { λ r. ⌜ Merged (now (card .entry)) (now (batch .entry)) (merge .rank) r ⌝ }
+{
+    let mut rank = merge.rank;
+    let mut old = merge.old;
+    let mut addition = merge.addition;
+    let mut decisions = merge.decisions;
+    loop {
+        old = old::skip(card, old, rank);
+        let added = batch::next_addition(batch, addition, rank);
+        addition = added.at;
+        rank = lesser(added.rank, old.rank);
+        if rank == 0 {
+            return Merge {
+                rank,
+                old,
+                addition,
+                decisions,
+            };
+        }
+        let decision = batch::decide(batch, decisions, rank);
+        decisions = decision.cursor;
+        if !decision.withdrawn {
+            return Merge {
+                rank,
+                old,
+                addition,
+                decisions,
+            };
+        }
+    }
+}
