@@ -38,10 +38,12 @@ run: target/gameindex
 test:
 	.ci/run
 
-bench: target/bench_judge target/bench_step target/bench_lookup
+bench: target/bench_judge target/bench_step target/bench_batches target/bench_lookup
 	target/bench_judge
 	@echo
 	target/bench_step
+	@echo
+	target/bench_batches
 	@echo
 	target/bench_lookup
 	@echo
@@ -74,6 +76,9 @@ target/bench_judge: bench/judge.c bench/judge_c.c bench/judge_c.h $(BENCH_FILES)
 
 target/bench_step: bench/step.c $(BENCH_FILES) $(HEADER) $(LIBRARY)
 	$(BENCH_CC) -o $@ bench/step.c bench/bench.c $(LIBRARY)
+
+target/bench_batches: bench/batches.c $(BENCH_FILES) $(HEADER) $(LIBRARY)
+	$(BENCH_CC) -o $@ bench/batches.c bench/bench.c $(LIBRARY)
 
 target/bench_lookup: bench/lookup.c $(BENCH_FILES) $(HEADER) $(LIBRARY)
 	$(BENCH_CC) -o $@ bench/lookup.c bench/bench.c $(LIBRARY)

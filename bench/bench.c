@@ -87,7 +87,26 @@ uint32_t fill_zipf(uint32_t *card, uint32_t live) {
     return term;
 }
 
+/* ---- a step undone */
+
+struct before kept(uint32_t *card) {
+    struct before words = {
+        .place = (card[GI_CONFIG_OLD_START] + card[GI_CONFIG_OLD_LENGTH] + card[GI_CONFIG_NEW_LENGTH]) % PLACES};
+    memcpy(words.configuration, card, sizeof words.configuration);
+    memcpy(words.entry, map_entry_at(card, words.place), sizeof words.entry);
+    memcpy(words.block, block_at(card, words.place), sizeof words.block);
+    return words;
+}
+
+void put_back(uint32_t *card, const struct before *words) {
+    memcpy(card, words->configuration, sizeof words->configuration);
+    memcpy(map_entry_at(card, words->place), words->entry, sizeof words->entry);
+    memcpy(block_at(card, words->place), words->block, sizeof words->block);
+}
+
 /* ---- the batch */
+
+enum { REMOVED = 3, REMOVED_FIRST = 100, APART = 3 };
 
 /* A number by chance, the same in every run. */
 static uint32_t chance(uint32_t *state) {
@@ -120,19 +139,16 @@ static int by_term_then_from(const void *one, const void *other) {
     return a[2] < b[2] ? -1 : a[2] > b[2];
 }
 
-void zipf_batch(uint32_t *card, uint32_t live, uint32_t *batch) {
-    enum { REMOVED = 3, REMOVED_FIRST = 100, APART = 3 };
+/* Fills the words from record on with records, and sorts the batch. */
+static void zipf_records(uint32_t *card, uint32_t live, uint32_t *batch, uint32_t *record, bool removals) {
     uint32_t state = 2463534242;
-    uint32_t *record = batch;
-    memcpy(record, (const uint32_t[]){GI_RECORD_REMOVE, 1, 1, REMOVED_FIRST * APART}, sizeof(uint32_t[4]));
-    record += GI_RECORD_WORDS;
     while (record < batch + BATCH_WORDS) {
         uint32_t place = (OLD_START + chance(&state) % live) % PLACES;
         uint32_t term;
         uint32_t position;
         if (!pair_of_word(block_at(card, place), chance(&state) % BLOCK_WORDS, &term, &position))
             continue;
-        bool adds = chance(&state) % 2 == 0;
+        bool adds = !removals || chance(&state) % 2 == 0;
         record[0] = adds ? GI_RECORD_ADD : GI_RECORD_REMOVE;
         record[1] = term;
         record[2] = adds ? position + 1 : position;
@@ -140,4 +156,13 @@ void zipf_batch(uint32_t *card, uint32_t live, uint32_t *batch) {
         record += GI_RECORD_WORDS;
     }
     qsort(batch, GI_BATCH_RECORDS_MAX, GI_RECORD_WORDS * sizeof *batch, by_term_then_from);
+}
+
+void zipf_batch(uint32_t *card, uint32_t live, uint32_t *batch) {
+    memcpy(batch, (const uint32_t[]){GI_RECORD_REMOVE, 1, 1, REMOVED_FIRST * APART}, sizeof(uint32_t[4]));
+    zipf_records(card, live, batch, batch + GI_RECORD_WORDS, true);
+}
+
+void zipf_additions(uint32_t *card, uint32_t live, uint32_t *batch) {
+    zipf_records(card, live, batch, batch, false);
 }

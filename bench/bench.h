@@ -47,4 +47,18 @@ uint32_t fill_zipf(uint32_t *card, uint32_t live);
  * up to every pair, so that the full card has room for the pass. */
 void zipf_batch(uint32_t *card, uint32_t live, uint32_t *batch);
 
+/* The same with additions only. */
+void zipf_additions(uint32_t *card, uint32_t live, uint32_t *batch);
+
+/* The words that a step may write, as they were before it. */
+struct before {
+    uint32_t place;
+    uint32_t configuration[GI_CONFIG_WORDS];
+    uint32_t entry[GI_MAP_ENTRY_WORDS];
+    uint32_t block[BLOCK_WORDS];
+};
+
+struct before kept(uint32_t *card);
+void put_back(uint32_t *card, const struct before *words);
+
 #endif

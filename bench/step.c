@@ -33,29 +33,6 @@ static struct answer step(uint32_t *card, const uint32_t *batch) {
     return (struct answer){write, finished != 0};
 }
 
-/* The words that a step may write, as they were before it. */
-struct before {
-    uint32_t place;
-    uint32_t configuration[GI_CONFIG_WORDS];
-    uint32_t entry[GI_MAP_ENTRY_WORDS];
-    uint32_t block[BLOCK_WORDS];
-};
-
-static struct before kept(uint32_t *card) {
-    struct before words = {
-        .place = (card[GI_CONFIG_OLD_START] + card[GI_CONFIG_OLD_LENGTH] + card[GI_CONFIG_NEW_LENGTH]) % PLACES};
-    memcpy(words.configuration, card, sizeof words.configuration);
-    memcpy(words.entry, map_entry_at(card, words.place), sizeof words.entry);
-    memcpy(words.block, block_at(card, words.place), sizeof words.block);
-    return words;
-}
-
-static void put_back(uint32_t *card, const struct before *words) {
-    memcpy(card, words->configuration, sizeof words->configuration);
-    memcpy(map_entry_at(card, words->place), words->entry, sizeof words->entry);
-    memcpy(block_at(card, words->place), words->block, sizeof words->block);
-}
-
 /* Times the step that is next, beside the judge; the card stands. */
 static void time_step(const char *where, uint32_t *card, const uint32_t *batch) {
     struct before words = kept(card);

@@ -60,39 +60,17 @@ EachUpdate-none f [] h = tt
 EachUpdate-none f (u ∷ us) h =
     (or-left (f u) (anyUpdate f us) h, EachUpdate-none f us (or-right (f u) (anyUpdate f us) h))
 
--- an update that is well formed
+-- an update that is well formed names a term and a position
 pub record Formed (u : Update) : Type 0 where
-  pub known : (u .kind ≡ 1) ⊎ (u .kind ≡ 2)
   pub termLow : 1 ≤ u .term
   pub fromLow : 1 ≤ u .from
-  pub toLow : 1 ≤ u .to
-  pub range : u .from ≤ u .to
-  pub single : u .kind ≡ 1 → u .from ≡ u .to
 
--- an update that is not ill formed is well formed
 pub formed-facts : (u : Update) → illFormed u ≡ false → Formed u
 unfolding illFormed
-formed-facts u e =
-    record {
-      known = kinds (not-false (eqb (u .kind) 1 || eqb (u .kind) 2) (search (or-left, or-right)));
-      termLow = low (u .term) (search (or-left, or-right));
-      fromLow = low (u .from) (search (or-left, or-right));
-      toLow = low (u .to) (search (or-left, or-right));
-      range = ltb-false (u .to) (u .from) (search (or-left, or-right));
-      single = alone (search (or-left, or-right));
-    }
+formed-facts u e = record { termLow = low (u .term) (search (or-left, or-right)); fromLow = low (u .from) (search (or-left, or-right)) }
   where
     low : (n : ℕ) → eqb n 0 ≡ false → 1 ≤ n
     low n f = let d : n ≢ 0 = eqb-false n 0 f in omega arith
-
-    kinds : (eqb (u .kind) 1 || eqb (u .kind) 2) ≡ true → (u .kind ≡ 1) ⊎ (u .kind ≡ 2)
-    kinds f = ⊎-map (eqb-true (u .kind) 1) (eqb-true (u .kind) 2) (or-cases (eqb (u .kind) 1) (eqb (u .kind) 2) f)
-
-    alone : (eqb (u .kind) 1 && ltb (u .from) (u .to)) ≡ false → u .kind ≡ 1 → u .from ≡ u .to
-    alone f i =
-        let l : u .to ≤ u .from = ltb-false (u .from) (u .to) (rw (eq-eqb (u .kind) 1 i) at f) in
-        let m : u .from ≤ u .to = ltb-false (u .to) (u .from) (search (or-left, or-right)) in
-        omega arith
 
 -- the updates of a batch of 32-bit words have such words
 pub words-updates : (b : List ℕ) → Words b → EachUpdate OfWords (updates b)
