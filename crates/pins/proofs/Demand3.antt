@@ -2,25 +2,38 @@
 use Prim.Native.Nat.{ℕ, _≤_, _<_}
 use mathlib.Core.Path.{_≡_, refl}
 use mathlib.Core.Bool.{Bool, true, false}
-use mathlib.Core.List.{List, [], _∷_}
+use mathlib.Core.List.{List, [], _∷_, _++_}
+use lib.ListN.{length}
+use lib.Seq.{take-at, drop-at}
 use lib.Dec.{leb}
 use borrow.Author.Tests.{le-leb, leb-false}
 use Rattle.pair.specs.Rank.{Words}
 use Rattle.pair.proofs.Tests.{and-both, contradiction}
+use Rattle.pair.proofs.Words.{words-take, words-drop}
 use Rattle.card.specs.Layout.{formatNumber, formatted}
 use Rattle.history.specs.History.{History, started, toWrite, Event, stepped, cut, looked, restarted, formats, after, tells, told, Admitted, Answered, Agrees, Holds, OfWords, AllOfWords, Demand3}
 use Rattle.history.proofs.Events.{told-where}
 use Rattle.history.proofs.Demand3.{demand3}
-use Rattle.pins.specs.Lists.{Given, Right}
+use Rattle.pins.specs.Lists.{wordsOf, Right}
 
-pub given : (es : List Event) → Given es → AllOfWords es
-unfolding Given OfWords AllOfWords
-given [] g = tt
-given (stepped b ∷ es) g = (g .0, given es (g .1))
-given (cut b ws l ∷ es) g = ((g .0, g .1), given es (g .2))
-given (looked t a z answer ∷ es) g = ((g .0, g .1, g .2, g .3), given es (g .4))
-given (restarted ∷ es) g = (tt, given es g)
-given (formats b n ∷ es) g = ((g .0, g .1), given es (g .2))
+first : (xs ys : List ℕ) → Words (xs ++ ys) → Words xs
+first xs ys w = rw (take-at xs ys (length xs) refl) at (words-take (length xs) (xs ++ ys) w)
+
+rest : (xs ys : List ℕ) → Words (xs ++ ys) → Words ys
+rest xs ys w = rw (drop-at xs ys (length xs) refl) at (words-drop (length xs) (xs ++ ys) w)
+
+pub given : (es : List Event) → Words (wordsOf es) → AllOfWords es
+unfolding Words wordsOf OfWords AllOfWords
+given [] w = tt
+given (stepped b ∷ es) w = (first b (wordsOf es) w, given es (rest b (wordsOf es) w))
+given (cut b ws l ∷ es) w =
+    let r = rest b (ws ++ wordsOf es) w in
+    ((first b (ws ++ wordsOf es) w, first ws (wordsOf es) r), given es (rest ws (wordsOf es) r))
+given (looked t a z answer ∷ es) w =
+    let r = words-drop 3 (t ∷ a ∷ z ∷ (answer ++ wordsOf es)) w in
+    ((w 0, w 1, w 2, first answer (wordsOf es) r), given es (rest answer (wordsOf es) r))
+given (restarted ∷ es) w = (tt, given es w)
+given (formats b n ∷ es) w = ((w 0, w 1), given es (words-drop 2 (b ∷ n ∷ wordsOf es) w))
 
 admitted : (n : ℕ) → Admitted n → 1 ≤ n → 4 < n
 unfolding Admitted
@@ -41,7 +54,7 @@ right (formats b n ∷ es) c h a = right es _ _ (rw told-where at (a .1))
 
 -- after any list of events on a card that the formatter has just accepted every answer was right, and the card keeps to its history
 pub card-keeps-to-history :
-    (c : List ℕ) (b n : ℕ) (es : List Event) → Words c → Given es → formatNumber c b n ≡ 0 →
+    (c : List ℕ) (b n : ℕ) (es : List Event) → Words c → Words (wordsOf es) → formatNumber c b n ≡ 0 →
     Right (formatted c b n) (record { size = b; pairs = []; mark = 0 }) es
 unfolding Demand3 started
 card-keeps-to-history c b n es w g e = right es (formatted c b n) (started b) (demand3 c b n es w (given es g) e)

@@ -31,12 +31,9 @@ keepsThree =
     ∷ formats 4 2
     ∷ []
 
--- the kinds that are left: a refused step, an accepted call of the formatter, and a step that makes the third write
-abbrev pub others : List Event
-others = stepped (1 ∷ []) ∷ formats 8 2 ∷ stepped three ∷ []
-
+-- the same and the kinds that are left: a refused step, an accepted call of the formatter, a step that makes the third write
 abbrev pub everyKind : List Event
-everyKind = keepsThree ++ others
+everyKind = keepsThree ++ stepped (1 ∷ []) ∷ formats 8 2 ∷ stepped three ∷ []
 
 -- what an event meets: the write of a step, cut or not, and the number of a call
 unfoldable pub met : List ℕ → Event → ℕ × ℕ

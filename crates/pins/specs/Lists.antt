@@ -1,12 +1,12 @@
--- What demand 3 asks of a list of events and what it says of one, event by event and with no definition of the claim itself.
+-- What is claimed of lists of events, event by event and with no definition of the claims themselves.
 use Prim.Native.Nat.{ℕ, _≤_, _<_}
 use mathlib.Core.Path.{_≡_}
-use mathlib.Core.Bool.{true, cond, _&&_, not}
-use mathlib.Core.List.{List, [], _∷_, map}
+use mathlib.Core.Bool.{Bool, true, cond, _&&_, _||_, not}
+use mathlib.Core.List.{List, [], _∷_, _++_, map}
 use lib.ListN.{length}
 use lib.Seq.{sets}
 use lib.Dec.{eqb}
-use Rattle.pair.specs.Rank.{rank, term, position, Words}
+use Rattle.pair.specs.Rank.{rank, term, position}
 use Rattle.pair.specs.Rising.{above, within, risingFrom}
 use Rattle.block.specs.Block.{goesOn}
 use Rattle.card.specs.Layout.{word, live, formatNumber, formatted}
@@ -16,16 +16,16 @@ use Rattle.update.specs.Step.{step}
 use Rattle.lookup.specs.Found.{lookup}
 use Rattle.history.specs.History.{History, started, landed, torn, Event, stepped, cut, looked, restarted, formats}
 
--- it is asked that all words are 32-bit words, and nothing else
-unfoldable pub Given : List Event → Type 0
-Given [] = Unit {0}
-Given (stepped b ∷ es) = Words b × Given es
-Given (cut b ws l ∷ es) = Words b × Words ws × Given es
-Given (looked t a z answer ∷ es) = (t < 4294967296) × (a < 4294967296) × (z < 4294967296) × Words answer × Given es
-Given (restarted ∷ es) = Given es
-Given (formats b n ∷ es) = (b < 4294967296) × (n < 4294967296) × Given es
+-- the words of the events: that they are 32-bit words is all that is asked of a list
+unfoldable pub wordsOf : List Event → List ℕ
+wordsOf [] = []
+wordsOf (stepped b ∷ es) = b ++ wordsOf es
+wordsOf (cut b ws l ∷ es) = b ++ (ws ++ wordsOf es)
+wordsOf (looked t a z answer ∷ es) = t ∷ a ∷ z ∷ (answer ++ wordsOf es)
+wordsOf (restarted ∷ es) = wordsOf es
+wordsOf (formats b n ∷ es) = b ∷ n ∷ wordsOf es
 
--- from the card c and the history h on: no answer is 1 to 4, a step finishes where the history has no pair beyond the due block, a lookup gives the
+-- demand 3, from the card c and the history h on: no answer is 1 to 4, a step finishes where the history has no pair beyond the due block, a lookup gives the
 -- history's positions; in the end the card is sound, its index is the history's pairs and its boundary words are the mark
 unfoldable pub Right : List ℕ → History → List Event → Type 0
 Right c h [] =
@@ -43,3 +43,13 @@ Right c h (looked t a z answer ∷ es) =
     × Right c h es
 Right c h (restarted ∷ es) = Right c h es
 Right c h (formats b n ∷ es) = Right (formatted c b n) (cond (eqb (formatNumber c b n) 0) (started b) h) es
+
+-- from the card c on, f telling whether a finishing write has landed: where the events lend no batch but b and no call of the formatter is accepted,
+-- P holds in the end
+unfoldable pub Throughout : List ℕ → (List ℕ → Bool → Type 0) → List ℕ → Bool → List Event → Type 0
+Throughout b P c f [] = P c f
+Throughout b P c f (stepped x ∷ es) = x ≡ b → Throughout b P (step c x .card) (f || step c x .finished) es
+Throughout b P c f (cut x ws l ∷ es) = x ≡ b → Throughout b P (torn c x ws l) (f || (step c x .finished && l)) es
+Throughout b P c f (looked t a z answer ∷ es) = Throughout b P c f es
+Throughout b P c f (restarted ∷ es) = Throughout b P c f es
+Throughout b P c f (formats x n ∷ es) = (formatNumber c x n ≡ 0 → ⊥) → Throughout b P (formatted c x n) f es
