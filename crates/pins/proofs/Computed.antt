@@ -29,7 +29,7 @@ pub every-row-there : length table ≡ 28
 every-row-there = refl
 
 pub record Computed : Type 0 where
-  -- P1's pass: one block, three steps, none refused, and no fewer
+  -- P1's pass fills one block; it finishes within three steps, none of them refused, and not within two
   pub p1-blocks : blocks 8 (remains (fresh 4) three) ≡ 1
   pub p1-accepted : refusedWithin 3 (fresh 4) three ≡ false
   pub p1-ends : finishesWithin 3 (fresh 4) three ≡ true

@@ -11,17 +11,19 @@ use Rattle.pair.specs.Rank.{Words}
 use Rattle.pair.proofs.Tests.{and-both, contradiction}
 use Rattle.pair.proofs.Words.{words-take, words-drop}
 use Rattle.card.specs.Layout.{formatNumber, formatted}
-use Rattle.history.specs.History.{History, started, toWrite, Event, stepped, cut, looked, restarted, formats, after, tells, told, Admitted, Answered, Agrees, Holds, OfWords, AllOfWords, Demand3}
+use Rattle.history.specs.History.{History, started, toWrite, Event, stepped, cut, looked, restarted, formats, after, tells, told, Admitted, Answered, Holds, OfWords, AllOfWords, Demand3}
 use Rattle.history.proofs.Events.{told-where}
 use Rattle.history.proofs.Demand3.{demand3}
 use Rattle.pins.specs.Lists.{wordsOf, Right}
 
+-- both parts of a list of 32-bit words
 first : (xs ys : List ℕ) → Words (xs ++ ys) → Words xs
 first xs ys w = rw (take-at xs ys (length xs) refl) at (words-take (length xs) (xs ++ ys) w)
 
 rest : (xs ys : List ℕ) → Words (xs ++ ys) → Words ys
 rest xs ys w = rw (drop-at xs ys (length xs) refl) at (words-drop (length xs) (xs ++ ys) w)
 
+-- what the claims ask of a list follows from its words
 pub given : (es : List Event) → Words (wordsOf es) → AllOfWords es
 unfolding Words wordsOf OfWords AllOfWords
 given [] w = tt
@@ -35,6 +37,7 @@ given (looked t a z answer ∷ es) w =
 given (restarted ∷ es) w = (tt, given es w)
 given (formats b n ∷ es) w = ((w 0, w 1), given es (words-drop 2 (b ∷ n ∷ wordsOf es) w))
 
+-- no number from 1 to 4
 admitted : (n : ℕ) → Admitted n → 1 ≤ n → 4 < n
 unfolding Admitted
 admitted n a low = go (leb n 4) refl
@@ -43,6 +46,7 @@ admitted n a low = go (leb n 4) refl
     go true e = contradiction _ (and-both _ _ (le-leb 1 n low) e) a
     go false e = leb-false n 4 e
 
+-- what demand 3 says of a list, event by event
 right : (es : List Event) (c : List ℕ) (h : History) → Holds c h es → Right c h es
 unfolding Right Holds Answered after tells told toWrite
 right [] c h a = (a .sound, a .index, a .bound .0, a .bound .1)

@@ -16,7 +16,8 @@ blank = replicate 28 0
 abbrev pub card : List ℕ
 card = formatted blank 8 2
 
--- a list that lends no batch but P1's: each write cut and made, a lookup that finds and a refused one, a restart, a refused call of the formatter
+-- a list that lends no batch but P1's: each of the three writes cut and then made, the third by a cut that lands; a lookup that finds, a refused one,
+-- a restart, a refused call of the formatter
 abbrev pub keepsThree : List Event
 keepsThree =
     cut three (9 ∷ 9 ∷ []) false
