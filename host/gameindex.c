@@ -5,6 +5,7 @@
 #define _POSIX_C_SOURCE 200809L
 
 #include <errno.h>
+#include <fcntl.h>
 #include <inttypes.h>
 #include <stdbool.h>
 #include <stdio.h>
@@ -158,11 +159,31 @@ static int run_command(int count, char **words) {
     return EXIT_FAULT;
 }
 
+/* ---- the standard streams */
+
+/* Takes the place of every standard stream that is closed, so that no card is
+ * opened there and written over with what is said. Such a stream cannot be
+ * read or written. */
+static bool take_streams(void) {
+    for (int stream = STDIN_FILENO; stream <= STDERR_FILENO; stream++)
+        /* what is opened is the lowest that is closed, so this one */
+        if (fcntl(stream, F_GETFD) < 0 && open("/dev/null", stream == STDIN_FILENO ? O_WRONLY : O_RDONLY) != stream)
+            return false;
+    return true;
+}
+
+/* Ends standard output and gives the exit status: a run whose output was not
+ * written as a whole is at fault, whatever it did. */
+static int end_output(int status) {
+    bool lost = ferror(stdout);
+    errno = 0;
+    if (fclose(stdout) == 0 && !lost)
+        return status;
+    return fault("standard output", "%s", errno != 0 ? strerror(errno) : "not all of it was written");
+}
+
 int main(int argc, char **argv) {
-    int status = run_command(argc > 0 ? argc - 1 : 0, argv + 1);
-    if (fflush(stdout) != 0 || ferror(stdout)) {
-        fprintf(stderr, "gameindex: standard output: %s\n", strerror(errno));
+    if (!take_streams())
         return EXIT_FAULT;
-    }
-    return status;
+    return end_output(run_command(argc > 0 ? argc - 1 : 0, argv + 1));
 }
