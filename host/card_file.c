@@ -126,11 +126,10 @@ static int lock(const struct card_file *card, bool writable) {
 /* Says that a sync failed. The system tells only once of a write that did not
  * reach the medium: from here on neither the file nor another sync shows it. */
 static int not_on_medium(const char *path, const char *what) {
-    return fault(
-        path,
-        "%s: %s may not be on the medium, whatever the file shows; do not trust the file before its medium has "
-        "been unmounted and mounted again (README: If a write does not reach the medium)",
-        strerror(errno), what);
+    return fault(path,
+                 "%s: %s may not be on the medium, whatever the file shows; do not trust the file before its medium "
+                 "has been unmounted and mounted again (README: If a write does not reach the medium)",
+                 strerror(errno), what);
 }
 
 /* Has the name of a file on the medium: syncs the folder that it is in, where
@@ -152,10 +151,10 @@ static bool sync_folder(const char *path) {
     return synced;
 }
 
-/* Brings to the medium what a run that was killed before its sync left behind:
- * its last write and, where it made the file, the file's name. Else a word that
- * is read here might be lost after one that is written here. A file system
- * that has no syncs (EINVAL) has nothing to bring where it is only read. */
+/* Brings to the medium what a run left behind that was killed before its sync:
+ * its last write and, where it made the file, the file's name. Else this run
+ * would show, and build on, words that a power cut can still take away. A file
+ * that is only read may lie where there are no syncs (EINVAL) and no writes. */
 static int settle(const struct card_file *card, bool writable) {
     if (fdatasync(card->file) != 0 && (writable || errno != EINVAL))
         return not_on_medium(card->path, "its words");

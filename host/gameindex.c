@@ -1,7 +1,7 @@
 /* gameindex: the host program of the game index, over libgameindex.a.
  *
- * Exit status: 0 done, 1 the index refused (the number is shown), 2 the file or
- * the command line is at fault. */
+ * Exit status: 0 done, 1 the index refused (the number is shown), 2 a file, the
+ * output or the command line is at fault. */
 #define _POSIX_C_SOURCE 200809L
 
 #include <errno.h>
@@ -142,7 +142,8 @@ static void usage(FILE *out) {
         fprintf(out, "  %-7s %-20s %s\n", commands[i].name, commands[i].words, commands[i].about);
     fprintf(out, "\nfiles are 32-bit words, little-endian; a batch is records of four: kind (1 adds, 2 removes),\n"
                  "term, from, to, by term, then from; an addition has from and to alike\n");
-    fprintf(out, "\nexit status: 0 done, 1 refused (the number is shown), 2 a fault of the file or the command line\n");
+    fprintf(out, "\nexit status: 0 done, 1 refused (the number is shown), 2 a fault of a file, the output or the "
+                 "command line\n");
 }
 
 static int run_command(int count, char **words) {
@@ -184,6 +185,6 @@ static int end_output(int status) {
 
 int main(int argc, char **argv) {
     if (!take_streams())
-        return EXIT_FAULT;
+        return fault("/dev/null", "%s", strerror(errno));
     return end_output(run_command(argc > 0 ? argc - 1 : 0, argv + 1));
 }

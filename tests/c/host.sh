@@ -29,7 +29,7 @@ expect() { # STATUS WHAT COMMAND..: the command must exit with the status
     local status=$?
     check "$what: exit status $status, expected $expected" [ "$status" -eq "$expected" ]
 }
-run() { expect "$1" "$2" "$program" "${@:3}"; }     # STATUS WHAT WORDS..: the program with the words
+run() { expect "$1" "$2" "$program" "${@:3}"; } # STATUS WHAT WORDS..: the program with the words
 run_cut() { expect "$1" "$2" "$cut" "${@:3}"; } # the same with its test build
 
 # the words of a file, decimal, from word FIRST on

@@ -3,8 +3,8 @@
 # A state is a folder: the card file, which is what runs see and what a killed run
 # leaves; the medium; and the writes that are pending (power_cut.c).
 
-fresh() { # CARD: a state, now, whose card and medium are the card, and nothing is pending
-    rm -rf now && mkdir now
+mkdir now killed
+fresh() { # CARD: the state now: card and medium are the card, and nothing is pending
     cp "$1" now/card
     cp "$1" now/medium
     : >now/medium.pending
@@ -16,20 +16,25 @@ kill_now() { # WRITE WHEN WHAT BATCH: a run that is killed at the write
 
 # The power fails in the state now, with every choice of what becomes of the
 # pending writes. What is left must be a sound card, and the batch, applied
-# again, must leave its pairs. Cards in tried are known to do so.
+# again, must leave its pairs. A state or a card that was tried is not tried
+# again. Two writes, more than ever are pending, have 36 choices.
 power_fails() { # WHAT BATCH PAIRS
-    local what=$1 batch=$2 expected=$3 choice=0 bytes
-    while MEDIUM=now/medium "$cut" power-cut "$choice" >left.card; do
-        choice=$((choice + 1))
-        [ "$choice" -le 36 ] || break
-        bytes=$(base64 -w 0 left.card)
-        [ -z "${tried[$bytes]-}" ] || continue
+    local what=$1 batch=$2 expected=$3 choice bytes status
+    bytes="state $(cat now/medium now/medium.pending | base64 -w 0)"
+    if [ -n "${tried[$bytes]-}" ]; then return; fi
+    tried[$bytes]=yes
+    for choice in $(seq 0 36); do
+        MEDIUM=now/medium "$cut" power-cut "$choice" >left.card
+        status=$?
+        if [ "$status" -ne 0 ]; then break; fi
+        bytes="card $(base64 -w 0 left.card)"
+        if [ -n "${tried[$bytes]-}" ]; then continue; fi
         tried[$bytes]=yes
         run_cut 0 "$what, choice $choice: sound" judge left.card
         run_cut 0 "$what, choice $choice: again" apply left.card "$batch"
         check "$what, choice $choice: the pairs" [ "$(pairs left.card)" = "$expected" ]
     done
-    check "$what: the choices of two writes at most" [ "$choice" -ge 1 -a "$choice" -le 36 ]
+    check "$what: every choice" [ "$status" -eq 1 -a "$choice" -ge 1 ]
 }
 
 # Runs of a batch on a card are killed at each write, and again at each write of
@@ -47,14 +52,14 @@ cuts() { # WHAT CARD BATCH PAIRS
         for when in before half after synced; do
             fresh "$card"
             kill_now "$write" "$when" "$what, write $write, $when" "$batch"
-            rm -rf killed && cp -r now killed
+            cp now/* killed
             power_fails "$what, write $write, $when" "$batch" "$expected"
             rm -f again.log
             WRITE_LOG=again.log run_now 0 "$what, write $write, $when: again" apply now/card "$batch"
             check "$what, write $write, $when: the pairs" [ "$(pairs now/medium)" = "$expected" ]
             if [ "$when" != after ]; then continue; fi
             for again in $(seq "$(grep -c write again.log)"); do
-                rm -rf now && cp -r killed now
+                cp killed/* now
                 kill_now "$again" after "$what, write $write, then $again" "$batch"
                 power_fails "$what, write $write, then $again" "$batch" "$expected"
             done
@@ -119,16 +124,19 @@ run 0 'fill it' apply four.card grow.batch
 batch tight.batch 1 1 1 1 1 2 1 1 2 7 1 99 2 8 2 3 # no old place is freed before the end; the next pass starts there
 cuts 'no place to spare' four.card tight.batch $'1 1\n2 1\n5 2\n5 9\n8 1'
 
-# what a command shows is on the medium, also where the last run was killed
-for words in judge show 'lookup 8'; do
+# What a command shows is on the medium, also where the last run was killed.
+shown() { # COMMAND WORDS..
     fresh another.card
-    kill_now 6 after "$words after a kill" grow.batch
-    run_now 0 "$words after a kill" "${words%% *}" now/card ${words#"${words%% *}"}
-    check "$words after a kill: it is on the medium" cmp -s now/card now/medium
-    FAIL_SYNC=1 run_now 2 "$words where the sync fails" "${words%% *}" now/card ${words#"${words%% *}"}
-    says_lost "$words where the sync fails"
-    FAIL_SYNC=1 FAIL_ERROR=22 run_now 0 "$words where there are no syncs" "${words%% *}" now/card ${words#"${words%% *}"}
-done
+    kill_now 6 after "$1 after a kill" grow.batch
+    run_now 0 "$1 after a kill" "$1" now/card "${@:2}"
+    check "$1 after a kill: it is on the medium" cmp -s now/card now/medium
+    FAIL_SYNC=1 run_now 2 "$1, the sync fails" "$1" now/card "${@:2}"
+    says_lost "$1, the sync fails"
+    FAIL_SYNC=1 FAIL_ERROR=22 run_now 0 "$1 where there are no syncs" "$1" now/card "${@:2}"
+}
+shown judge
+shown show
+shown lookup 8
 FAIL_SYNC=1 FAIL_ERROR=22 run_now 2 'apply where there are no syncs' apply now/card grow.batch
 FAIL_SYNC=2 FAIL_ERROR=22 run_now 0 'apply where folders have no syncs' apply now/card grow.batch
 

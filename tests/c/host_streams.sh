@@ -1,12 +1,12 @@
 # A part of host.sh: standard streams that are closed, and output that cannot be written.
 
-# the program with those of the streams 0, 1 and 2 closed that are named
-closed() { # STREAMS WORDS..
+# the command with those of the streams 0, 1 and 2 closed that are named
+closed() { # STREAMS COMMAND..
     (
         case $1 in *0*) exec <&- ;; esac
         case $1 in *1*) exec >&- ;; esac
         case $1 in *2*) exec 2>&- ;; esac
-        exec "$program" "${@:2}"
+        exec "${@:2}"
     )
 }
 full() { "$program" "$@" >/dev/full; }
@@ -22,29 +22,30 @@ lies() { # CARD: stream.card is still the card, or not there
 # A command makes of the card what it makes with all streams open, and where
 # standard output is closed or full its exit status is 2, as it had something to
 # show. A batch from a standard input that is closed is none: the card stands.
+# Output is written at the end or, as stdbuf has it, line by line.
 streams() { # STATUS CARD COMMAND..: the exit status with all streams open, the card before the command, its words
-    local status=$1 card=$2 words=("${@:3}") made names what expected
+    local status=$1 card=$2 words=("${@:3}") made='' names
     lay "$card"
     run "$status" "${words[*]}" "${words[@]}" <one.batch
-    made=''
     if [ -e stream.card ]; then mv stream.card made.card && made=made.card; fi
     for names in '' 0 1 2 01 02 12 012; do
-        what="${words[*]}, closed: ${names:-none}" expected=$status
-        lay "$card"
-        case $names in *1*) expected=2 ;; esac
-        if [ "${words[-1]}" = - ] && [ "$names" != "${names#0}" ]; then
-            expect 2 "$what" closed "$names" "${words[@]}" <one.batch
-            check "$what: the card stands" lies "$card"
-            continue
-        fi
-        expect "$expected" "$what" closed "$names" "${words[@]}" <one.batch
-        check "$what: the card" lies "$made"
-        case $names in 1 | 01) check "$what: it says so" grep -Eq 'standard output: Bad file|no such|usage' err ;; esac
+        close_streams "$names" "$program"
+        close_streams "$names" stdbuf -oL "$program"
     done
     lay "$card"
     expect 2 "${words[*]}, full" full "${words[@]}" <one.batch
     check "${words[*]}, full: the card" lies "$made"
-    check "${words[*]}, full: it says so" grep -Eq 'standard output: No space|no such|usage' err
+    check "${words[*]}, full: it says so" grep -Eq 'standard output: |no such|usage' err
+}
+close_streams() { # STREAMS PROGRAM..: one run of the command, with these closed
+    local names=$1 expected=$status after=$made
+    local what="${words[*]}, closed: ${names:-none}"
+    case $names in *1*) expected=2 ;; esac
+    case ${words[-1]}$names in -0*) expected=2 after=$card ;; esac
+    lay "$card"
+    expect "$expected" "$what" closed "$@" "${words[@]}" <one.batch
+    check "$what: the card" lies "$after"
+    case $names in 1 | 01) check "$what: it says so" grep -Eq 'standard (in|out)put: |no such|usage' err ;; esac
 }
 
 cp case1.card kept.card
@@ -61,5 +62,5 @@ streams 0 new.card apply stream.card -
 streams 1 kept.card apply stream.card order.batch
 streams 2 kept.card apply stream.card 'no such.batch'
 streams 2 kept.card frobnicate stream.card
-expect 2 'help, closed: 1' closed 1 help
+expect 2 'help, closed: 1' closed 1 "$program" help
 expect 2 'help, full' full help
