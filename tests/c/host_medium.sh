@@ -158,7 +158,7 @@ check 'its name is on the medium before the first write' [ "$(head -n 3 log | tr
 # a write that writes nothing is an error
 for write in 1 2 3; do
     cp another.card zero.card
-    ZERO_WRITE=$write expect 2 "write $write gives 0" timeout 20 "$cut" apply zero.card one.batch
+    ZERO_WRITE=$write run_cut 2 "write $write gives 0" apply zero.card one.batch
     check "write $write gives 0: the message" grep -q 'zero.card: Input/output error' err
     run 0 "write $write gives 0: sound" judge zero.card
 done
