@@ -62,9 +62,9 @@ $(LIBRARY): $(SOURCES)
 target/gameindex: $(HOST_FILES) $(HOST_HEADERS) $(HEADER) $(LIBRARY)
 	$(CC) $(WARNINGS) $(OPTIMISE) -Iinclude -o $@ $(HOST_FILES) $(LIBRARY)
 
-# the host program as it is, but for file writes that can fail as with the power
+# the host program as it is, but for a medium apart from the card file, which power cuts and failing syncs are tried on
 target/gameindex_cut: $(HOST_FILES) $(HOST_HEADERS) tests/c/power_cut.c $(HEADER) $(LIBRARY)
-	$(CC) $(WARNINGS) $(OPTIMISE) -Iinclude -Wl,--wrap=pwrite,--wrap=fdatasync -o $@ $(HOST_FILES) tests/c/power_cut.c $(LIBRARY)
+	$(CC) $(WARNINGS) $(OPTIMISE) -Iinclude -Wl,--wrap=main,--wrap=pwrite,--wrap=fdatasync,--wrap=fsync -o $@ $(HOST_FILES) tests/c/power_cut.c $(LIBRARY)
 
 target/test_gameindex: $(TEST_FILES) tests/c/small_cards.h $(HEADER) $(LIBRARY)
 	$(CC) $(WARNINGS) $(OPTIMISE) -Iinclude -o $@ $(TEST_FILES) $(LIBRARY)
