@@ -5,6 +5,7 @@
 #   faults     public functions with a requires or without an ensures, and what it cannot read
 # A function is public if it is `pub` or callable from C. Prints the files that have one.
 
+BEGIN { literal = "\"([^\"\\\\]|\\\\.)*\"|b'([^'\\\\]|\\\\.([0-9a-f][0-9a-f])?)'" }
 FNR == 1 { if (file != "") read_file(); file = FILENAME; rest = "" }
 { rest = rest $0 "\n" }
 END { read_file() }
@@ -17,23 +18,24 @@ function take(length_of,    s) {
     return s
 }
 
-# The rest with each comment as the one character \001, and no bracket in a literal.
+# The rest with each comment as the one character \001, and whitespace folded but in literals.
 function strip_comments(    s, mark) {
     if (rest ~ /[\001-\010\013-\037\177]/) fault(file ": has control characters")
-    while (match(rest, /\/[\/*]|["']/)) {
-        mark = substr(rest, RSTART, RLENGTH)
+    while (match(rest, "//|/\\*|" literal)) {
         s = s take(RSTART - 1)
+        mark = substr(rest, 1, 2)
         if (mark == "//") {
             take(index(rest, "\n") - 1)
             s = s "\001"
         } else if (mark == "/*") {
             fault(file ": has a block comment, which is not read")
             rest = ""
-        } else if (match(rest, /^("([^"\\]|\\.)*"|'([^'\\]|\\.[^']*)')/)) {
+        } else {
+            match(rest, literal)
             mark = take(RLENGTH)
-            gsub(/[][(){};]/, "\002", mark)
+            gsub(/ /, "\002", mark)
             s = s mark
-        } else s = s take(1) # a lifetime
+        }
     }
     rest = s rest
     gsub(/[ \t\n]+/, " ", rest)
@@ -41,9 +43,10 @@ function strip_comments(    s, mark) {
 
 # Takes the text to its closing ';', or to its closing '}' where that may end it.
 function statement(brace_ends,    s, c, depth) {
-    while (match(rest, /[][(){};]/)) {
-        c = substr(rest, RSTART, 1)
-        s = s take(RSTART)
+    while (match(rest, literal "|[][(){};]")) {
+        c = RLENGTH > 1 ? "" : substr(rest, RSTART, 1)
+        s = s take(RSTART + RLENGTH - 1)
+        if (c == "") continue
         if (index("[({", c)) depth++
         else if (c != ";") depth--
         if (!depth && (c == ";" || (c == "}" && brace_ends))) return s
