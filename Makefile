@@ -15,11 +15,12 @@ TEST_FILES = tests/c/test_gameindex.c tests/c/format_judge.c tests/c/step.c test
 C_FILES = $(wildcard include/*.h host/*.[ch] tests/c/*.[ch] bench/*.[ch])
 
 .DELETE_ON_ERROR:
-.PHONY: help run test bench fmt clean
+.PHONY: help run test pins bench fmt clean
 
 help:
 	@echo 'make run     build the library and the host program; make a card, apply a batch, look up'
 	@echo 'make test    run the merge gate, .ci/run'
+	@echo 'make pins    write tests/pins anew, which the gate holds the source to; read its diff'
 	@echo 'make bench   time the judge against one in plain C, steps and lookups against the judge'
 	@echo 'make fmt     format Rattle, Rust and C files'
 	@echo 'make clean   remove all that was built'
@@ -37,6 +38,9 @@ run: target/gameindex
 
 test:
 	.ci/run
+
+pins:
+	.ci/pins write
 
 bench: target/bench_judge target/bench_step target/bench_lookup
 	target/bench_judge
