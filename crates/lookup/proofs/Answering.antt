@@ -90,15 +90,15 @@ module _ (c : List ℕ) (t a z : ℕ) (ans : List ℕ) where
       (rw (l, f, o .found, o .blocks), rw (l, s, o .found))
 
 -- the numbers of a lookup's answer are those of the lookup
-pub record Numbered (r : LookupAnswer) (l : Lookup) : Type 0 where
+pub record AnswerNumbers (r : LookupAnswer) (l : Lookup) : Type 0 where
   pub number : numberOf r ≡ l .number
   pub count : countOf r ≡ l .count
   pub blocks : blocksReadOf r ≡ l .blocks
 
-pub answer-numbered : (c : List ℕ) (t a z : ℕ) (ans : List ℕ) → Numbered (answerOf (lookup c t a z ans)) (lookup c t a z ans)
-answer-numbered c t a z ans = go (eqb (lookupNumber c t a z ans) 0) refl
+pub answer-numbers : (c : List ℕ) (t a z : ℕ) (ans : List ℕ) → AnswerNumbers (answerOf (lookup c t a z ans)) (lookup c t a z ans)
+answer-numbers c t a z ans = go (eqb (lookupNumber c t a z ans) 0) refl
   where
-    go : (s : Bool) → eqb (lookupNumber c t a z ans) 0 ≡ s → Numbered (answerOf (lookup c t a z ans)) (lookup c t a z ans)
+    go : (s : Bool) → eqb (lookupNumber c t a z ans) 0 ≡ s → AnswerNumbers (answerOf (lookup c t a z ans)) (lookup c t a z ans)
     go true e =
         let l = lookup-found c t a z ans (eqb-true (lookupNumber c t a z ans) 0 e) in
         record { number = rw l; count = rw l; blocks = rw l }
