@@ -319,7 +319,7 @@ fn lookup_across_many_blocks() {
     whole.report("lookup_across_many_blocks, all of a term");
     println!("lookup_across_many_blocks: {seen:?}");
     tally.expect(&[0, 9, 10], 10_000);
-    whole.expect(&[0, 10], 100);
+    whole.expect(&[0, 10], 50);
     seen.expect(500);
 }
 
