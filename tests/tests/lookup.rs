@@ -34,6 +34,12 @@ fn lookup_on_the_papers_cases() {
             assert_eq!(answer[..positions.len()], *positions);
             assert!(answer[positions.len()..].iter().all(|&word| word == 77));
             comparisons += 1;
+            if (from, to) == (1, TOP) {
+                let mut whole = vec![77; room];
+                let given = ffi::lookup_all(card, term, &mut whole);
+                assert_eq!((given, whole), (expected, answer), "all of term {term}");
+                comparisons += 1;
+            }
         };
         ask(&card, (5, 1, 9), 2, (0, 0, 0), &[]);
         while !ffi::step(&mut card, &batch).finished {}
@@ -45,6 +51,9 @@ fn lookup_on_the_papers_cases() {
         ask(&card, (6, 1, 9), 4, (0, 0, 1), &[]);
         ask(&card, (5, 2, 2), 1, (0, 1, 1), &[2]);
         ask(&card, (7, 1, TOP), 1, (0, 1, 1), &[4]);
+        ask(&card, (5, 1, TOP), 3, (0, 2, 1), &[2, 9]);
+        ask(&card, (5, 1, TOP), 1, (10, 0, 0), &[]);
+        ask(&card, (0, 1, TOP), 2, (9, 0, 0), &[]);
         ask(&card, (5, 1, 1), 1, (0, 0, 0), &[]);
         for question in [
             (0, 1, 9),
