@@ -57,9 +57,11 @@ pub fn lookup(card: &[u32], term: u32, from: u32, to: u32, answer: &mut [u32]) -
     let new = walk.new;
     let old = walk.old;
     let blocks = new.blocks + old.blocks;
+    let found = count as u32;
+    let read = blocks as u32;
     LookupAnswer::Found {
-        count: count as u32,
-        blocks: blocks as u32,
+        count: found,
+        blocks: read,
     }
 }
 

@@ -25,11 +25,11 @@ copy-ahead-requires c κs = search needs
 add-blocks : tie.Need-add-blocks
 add-blocks c = search needs
 
-cast-t17 : tie.Need-cast-t17
-cast-t17 c = search needs
+cast-found : tie.Need-cast-found
+cast-found c = search needs
 
-cast-t18 : tie.Need-cast-t18
-cast-t18 c = search needs
+cast-read : tie.Need-cast-read
+cast-read c = search needs
 
 same-length : tie.Need-same-length
 same-length c = search needs
@@ -48,7 +48,7 @@ lookup-spec =
     returns-2
     copy-ahead-requires
     add-blocks
-    cast-t17
-    cast-t18
+    cast-found
+    cast-read
     same-length
     returns-3)
