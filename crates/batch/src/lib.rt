@@ -24,9 +24,8 @@ fn ill_formed(kind: u32, term: u32, from: u32, to: u32) -> bool
     ensures { λ r. ⌜ r ≡ illFormed (record { kind = kind; term = term; from = from; to = to }) ⌝ }
 {
     !((kind == ADDS) | (kind == REMOVES))
-        | (term == 0)
-        | (from == 0)
-        | (to == 0)
+        | !pair::is_pair(term, from)
+        | !pair::is_pair(term, to)
         | (to < from)
         | ((kind == ADDS) & (from < to))
 }

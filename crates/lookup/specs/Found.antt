@@ -16,12 +16,13 @@ use Rattle.card.specs.Sound.{judged}
 unfoldable pub found : List ℕ → ℕ → ℕ → ℕ → List ℕ
 found c t a z = map position (within (rank t a) (rank t z) (live c))
 
--- how many of the places have a map pair of at most k
+-- how many places stand up to the last whose map pair is at most k, that one included; 0 where there is no such last
 unfoldable pub mappedTo : List ℕ → ℕ → List ℕ → ℕ
 mappedTo c k [] = 0
-mappedTo c k (i ∷ is) = cond (leb (firstPair c i) k) (suc (mappedTo c k is)) 0
+mappedTo c k (i ∷ is) = cond (leb (firstPair c i) k || ltb 0 (mappedTo c k is)) (suc (mappedTo c k is)) 0
 
--- the blocks from the last whose map pair is at most (t, a), or else the first, up to the last whose map pair is at most (t, z)
+-- the blocks from the last whose map pair is at most (t, a), or else the first, up to the last whose map pair is at most (t, z);
+-- none where there is no such last
 unfoldable pub span : List ℕ → ℕ → ℕ → ℕ → List ℕ → ℕ
 span c t a z is = mappedTo c (rank t z) is - (mappedTo c (rank t a) is - 1)
 
