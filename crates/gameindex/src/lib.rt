@@ -4,9 +4,9 @@ ghost use Rattle.card.specs.Layout.{formatNumber, formatted};
 ghost use Rattle.card.specs.Sound.{judged};
 ghost use Rattle.update.specs.Step.{step};
 ghost use Rattle.gameindex.specs.Flat.{flag, Stepped, LookedUp};
-ghost use Rattle.lookup.specs.Found.{lookup, read};
+ghost use Rattle.lookup.specs.Found.{lookup};
 ghost use Rattle.lookup.specs.Answer.{Viewed};
-ghost use Rattle.lookup.specs.Reading.{ReadOff};
+ghost use Rattle.reader.specs.Reader.{read, ReadOff};
 use lookup::LookupAnswer;
 
 // Formats a card; the reply is the number, 0 where it is done.
@@ -114,7 +114,7 @@ pub extern "C" fn gi_read(
 ) -> u32
     ensures { λ r. ⌜ ReadOff r (now (found .exit)) (now (answer .exit)) (read (now (card .entry)) term from to (now (answer .entry))) ⌝ }
 {
-    let reading = lookup::reading::read(card, term, from, to, answer);
+    let reading = reader::read(card, term, from, to, answer);
     *found = reading.count;
     reading.number
 }
