@@ -5,9 +5,9 @@ ghost use Rattle.card.specs.Sound.{judged};
 ghost use Rattle.update.specs.Step.{step};
 ghost use Rattle.pair.specs.Bounds.{lowest, highest};
 ghost use Rattle.gameindex.specs.Flat.{flag, Stepped, Filled, LookedUp};
-ghost use Rattle.lookup.specs.Found.{lookup, read};
+ghost use Rattle.lookup.specs.Found.{lookup};
 ghost use Rattle.lookup.specs.Answer.{Viewed};
-ghost use Rattle.lookup.specs.Reading.{ReadOff};
+ghost use Rattle.reader.specs.Reader.{read, ReadOff};
 use lookup::LookupAnswer;
 
 // Formats a card; the reply is the number, 0 where it is done.
@@ -137,7 +137,7 @@ pub extern "C" fn gi_read(
 ) -> u32
     ensures { λ r. ⌜ ReadOff r (now (found .exit)) (now (answer .exit)) (read (now (card .entry)) term from to (now (answer .entry))) ⌝ }
 {
-    let reading = lookup::reading::read(card, term, from, to, answer);
+    let reading = reader::read(card, term, from, to, answer);
     *found = reading.count;
     reading.number
 }

@@ -2,7 +2,7 @@
 use Prim.Native.Nat.{ℕ, suc, _+_, _-_}
 use mathlib.Core.Bool.{cond, _&&_, _||_, not}
 use mathlib.Core.List.{List, [], _∷_, map}
-use lib.ListN.{length, take, getD}
+use lib.ListN.{length}
 use lib.Seq.{sets}
 use lib.Dec.{ltb, leb, eqb}
 use Rattle.pair.specs.Rank.{rank, position}
@@ -83,27 +83,3 @@ runStart c t a z =
     cond (eqb (questionNumber c t a z) 0)
     (runStartAt c 0 (rank t a) (rank t z) (newPlaces c) (runStartAt c (boundary c) (rank t a) (rank t z) (oldPlaces c) 0))
     0
-
--- all that the posting reader yields: what is found, and nothing where the question is refused
-unfoldable pub allYielded : List ℕ → ℕ → ℕ → ℕ → List ℕ
-allYielded c t a z = cond (eqb (questionNumber c t a z) 0) (found c t a z) []
-
--- what it yields at a time: a posting, or the end
-pub data Yielded : Type 0 where
-  posting : ℕ → Yielded
-  ended : Yielded
-
--- the yield after n others: the postings one after another, then the end for ever
-unfoldable pub yielded : List ℕ → ℕ → ℕ → ℕ → ℕ → Yielded
-yielded c t a z n = getD (map posting (allYielded c t a z)) n ended
-
--- a reading: the first postings that a reader yields, as many as there are answer words
-pub record Read : Type 0 where
-  pub number : ℕ
-  pub count : ℕ
-  pub answer : List ℕ
-
-unfoldable pub read : List ℕ → ℕ → ℕ → ℕ → List ℕ → Read
-read c t a z answer =
-    let first = take (length answer) (allYielded c t a z) in
-    record { number = questionNumber c t a z; count = length first; answer = sets answer 0 first }

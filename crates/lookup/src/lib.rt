@@ -11,7 +11,6 @@ use crate::walk::next_run;
 use pair::Pair;
 
 pub mod map; // the blocks that are read, found by the map
-pub mod reading; // the posting reader's cursor, one posting after another
 pub mod taking; // the wanted positions of a walk counted, and moved to answer words
 pub mod walk; // the blocks that are read, one run of wanted positions after another
 

@@ -6,7 +6,7 @@ use lib.ListN.{take, getD}
 use Rattle.pair.specs.Rank.{rank}
 use Rattle.card.specs.Layout.{boundary, oldPlaces, newPlaces}
 use Rattle.lookup.specs.Found.{questionNumber, blocksRead, holders, lookup}
-use Rattle.lookup.specs.Found.{posting, ended, yielded, read}
+use Rattle.reader.specs.Reader.{posting, ended, yielded, read}
 use Rattle.history.specs.Claims.{BlocksReadBound, ReaderYieldsLookup, ReadingIsLookup}
 use Rattle.history.proofs.BlocksRead.{blocksReadBound}
 use Rattle.history.proofs.Yields.{readerYieldsLookup, readingIsLookup}

@@ -1,9 +1,9 @@
--- `lookup::reading::yield_at` meets its contract. The invariant: the cursor in hand is behind i yields.
+-- `reader::cursor::yield_at` meets its contract. The invariant: the cursor in hand is behind i yields.
 use Prim.Native.Nat.{_-_}
-use Rattle.lookup.proofs.Cursors.{Behind, behind-start, behind-turn, behind-end, behind-stop}
+use Rattle.reader.proofs.Cursors.{Behind, behind-start, behind-turn, behind-end, behind-stop}
 use borrow.Author.Needs.{needs}
-use Rattle.lookup.proofs.reading.yield_at.Statement.{statement}
-use Rattle.lookup.proofs.reading.yield_at.Tie as tie
+use Rattle.reader.proofs.cursor.yield_at.Statement.{statement}
+use Rattle.reader.proofs.cursor.yield_at.Tie as tie
 
 abbrev Inv-loop : tie.InvT-loop
 Inv-loop card n here₀ i₀ here i = Behind card here₀ n here i

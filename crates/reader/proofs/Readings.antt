@@ -2,15 +2,18 @@
 use Prim.Native.Nat.{ℕ, zero, suc, _+_, _≤_, _<_, zero-le}
 use native.Mathlib.Omega.{arith}
 use mathlib.Core.Path.{_≡_, refl, sym, ap, _∙_}
+use mathlib.Core.Bool.{false}
 use mathlib.Core.List.{List, [], _∷_, map}
 use lib.ListN.{length, take, getD, set, length-take}
-use lib.Seq.{sets, take-all, length-sets}
+use lib.Seq.{sets, take-all, take-nil, length-sets}
+use lib.Dec.{eqb}
 use Rattle.card.proofs.Parts.{sets-next}
-use Rattle.lookup.specs.declared.reading.Cursor.{Cursor}
-use Rattle.lookup.specs.declared.reading.Step.{Step}
-use Rattle.lookup.specs.declared.reading.Yield.the-variants.{Posting, End}
-use Rattle.lookup.specs.Found.{questionNumber, allYielded, posting, ended, yielded, read}
-use Rattle.lookup.specs.Reading.{Stands, yieldOf, Stepped, ReadOff}
+use Rattle.lookup.specs.Found.{questionNumber}
+use Rattle.reader.specs.declared.Yield.the-variants.{Posting, End}
+use Rattle.reader.specs.declared.cursor.Cursor.{Cursor}
+use Rattle.reader.specs.declared.cursor.Step.{Step}
+use Rattle.reader.specs.Reader.{allYielded, posting, ended, yielded, read, yieldOf, ReadOff}
+use Rattle.reader.specs.Cursor.{Stands, Stepped}
 
 -- where a posting is yielded, it is the next of them all; where the end is, there are no more
 yields-there : (ys : List ℕ) (n p : ℕ) → posting p ≡ getD (map posting ys) n ended → (n < length ys) × (p ≡ getD ys n 0)
@@ -22,6 +25,13 @@ yields-past : (ys : List ℕ) (n : ℕ) → ended ≡ getD (map posting ys) n en
 yields-past [] n e = zero-le
 yields-past (y ∷ ys) zero e = absurd (let z : _≡_ {A = ℕ} 0 1 = cc in omega arith)
 yields-past (y ∷ ys) (suc n) e = omega (arith, yields-past ys n e)
+
+-- a refused reading writes nothing
+pub read-refused :
+    (c : List ℕ) (t a z : ℕ) (answer : List ℕ) → eqb (questionNumber c t a z) 0 ≡ false →
+    read c t a z answer ≡ record { number = questionNumber c t a z; count = 0; answer = answer }
+unfolding read allYielded
+read-refused c t a z answer e = rw (e, take-nil (length answer))
 
 -- i postings are read, and the reader stands behind them
 pub record Taking (c : List ℕ) (t a z : ℕ) (l : List ℕ) (k : Cursor) (now : List ℕ) (i : ℕ) : Type 0 where

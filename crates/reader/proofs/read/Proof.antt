@@ -1,11 +1,11 @@
--- `lookup::reading::read` meets its contract. The invariant: count postings are in the answer words, and the cursor in hand is behind them.
+-- `reader::read` meets its contract. The invariant: count postings are in the answer words, and the cursor in hand is behind them.
 use Prim.Native.Nat.{_-_}
 use native.Mathlib.Omega.{arith}
 use lib.ListN.{length}
-use Rattle.lookup.proofs.Readings.{Taking, taking-start, taking-length, taking-turn, taking-full, taking-end}
+use Rattle.reader.proofs.Readings.{Taking, taking-start, taking-length, taking-turn, taking-full, taking-end}
 use borrow.Author.Needs.{needs}
-use Rattle.lookup.proofs.reading.read.Statement.{statement}
-use Rattle.lookup.proofs.reading.read.Tie as tie
+use Rattle.reader.proofs.read.Statement.{statement}
+use Rattle.reader.proofs.read.Tie as tie
 
 abbrev Inv-loop : tie.InvT-loop
 Inv-loop card term from to answer₀ here₀ number count₀ answer here count = Taking card term from to answer₀ here answer count
@@ -17,7 +17,7 @@ open-at-requires : tie.Need-open-at-requires Inv-loop μ-loop
 open-at-requires c κs = search needs
 
 loop-holds : tie.Need-loop-holds Inv-loop μ-loop
-loop-holds c = taking-start (c .open-at .ensures)
+loop-holds c = taking-start (c .before .open-at .ensures .1)
 
 step-at-requires : tie.Need-step-at-requires Inv-loop μ-loop
 step-at-requires c κs = search needs
@@ -40,7 +40,7 @@ same-length c = taking-length (c .before .before .before .before .loop .inv)
 returns : tie.Need-returns Inv-loop μ-loop
 returns c =
     let l = c .before .before .before .before in
-    taking-end (l .loop .inv) (c .before .before .step-at .ensures) (c .enum-told .given .1) (l .before .open-at .ensures .number)
+    taking-end (l .loop .inv) (c .before .before .step-at .ensures) (c .enum-told .given .1) (l .before .before .open-at .ensures .0)
 
 add-count : tie.Need-add-count Inv-loop μ-loop
 add-count c = search needs
@@ -59,7 +59,7 @@ same-length-2 : tie.Need-same-length-2 Inv-loop μ-loop
 same-length-2 c = taking-length (c .before .loop .inv)
 
 returns-2 : tie.Need-returns-2 Inv-loop μ-loop
-returns-2 c = taking-full (c .before .loop .inv) (c .loop-test .left) (c .before .before .open-at .ensures .number)
+returns-2 c = taking-full (c .before .loop .inv) (c .loop-test .left) (c .before .before .before .open-at .ensures .0)
 
 pub read-spec : {M : Type 1} → statement M
 read-spec =

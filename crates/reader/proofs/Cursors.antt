@@ -4,57 +4,25 @@ use native.Mathlib.Numerals.{add-one}
 use native.Mathlib.Omega.{arith}
 use mathlib.Core.Path.{_≡_, refl, sym, ap, _∙_}
 use mathlib.Core.List.{List, [], _∷_, _++_, map}
-use borrow.Author.Tests.{eq-eqb, ne-eqb}
 use lib.ListN.{length, take, drop, getD}
 use lib.Seq.{drop-cons}
-use Rattle.card.specs.Layout.{around}
 use Rattle.lookup.specs.declared.walk.Walk.{Walk}
+use Rattle.lookup.specs.declared.walk.WalkStart.{WalkStart}
 use Rattle.lookup.specs.declared.walk.WalkRun.{WalkRun}
-use Rattle.lookup.specs.declared.reading.Cursor.{Cursor}
-use Rattle.lookup.specs.declared.reading.Step.{Step}
-use Rattle.lookup.specs.declared.reading.Yield.the-variants.{Posting, End}
-use Rattle.lookup.specs.Found.{found, questionNumber, allYielded, posting, ended, yielded}
-use Rattle.lookup.specs.Reading.{Stands, yieldOf, Stepped, Later}
-use Rattle.lookup.specs.Segment.{Opened}
-use Rattle.lookup.specs.Walk.{ahead, ReadyWalk, Next}
-use Rattle.lookup.proofs.Walking.{postings-none}
-
--- no block is ahead of a walk without blocks
-abbrev none : ℕ → ℕ → Walk
-none t z = record { term = t; to = z; new = record { place = 0; blocks = 0; after = 0 }; old = record { place = 0; blocks = 0; after = 0 } }
-
-none-ready : (c : List ℕ) (t z : ℕ) → ReadyWalk c (none t z)
-unfolding around
-none-ready c t z =
-    record {
-      new = record { shape = λ l. absurd (let z : ⊥ = omega arith in z); within = λ l. absurd (let z : ⊥ = omega arith in z); live = tt };
-      old = record { shape = λ l. absurd (let z : ⊥ = omega arith in z); within = λ l. absurd (let z : ⊥ = omega arith in z); live = tt };
-    }
-
-none-ahead : (c : List ℕ) (t z : ℕ) → ahead c (none t z) ≡ []
-unfolding around
-none-ahead c t z = rw (postings-none c)
+use Rattle.lookup.specs.Found.{questionNumber}
+use Rattle.lookup.specs.Walk.{ahead, Started, Next}
+use Rattle.reader.specs.declared.Yield.the-variants.{Posting, End}
+use Rattle.reader.specs.declared.cursor.Cursor.{Cursor}
+use Rattle.reader.specs.declared.cursor.Step.{Step}
+use Rattle.reader.specs.Reader.{allYielded, posting, ended, yielded, yieldOf}
+use Rattle.reader.specs.Cursor.{Stands, OfCard, Stepped, Later}
 
 -- a reader that is opened
-pub opened-refused : {c : List ℕ} {t a z n : ℕ} → n ≡ questionNumber c t a z → (n ≡ 0 → ⊥) → Stands c t a z 0 (record { number = n; at = 0; left = 0; walk = none t z })
+pub opened-reader :
+    {c : List ℕ} {t a z : ℕ} {r : WalkStart} → Started c t a z r →
+    (r .number ≡ questionNumber c t a z) × Stands c t a z 0 (record { at = 0; left = 0; walk = r .walk })
 unfolding allYielded
-opened-refused {c} {t} {a} {z} {n} e h =
-    record {
-      number = e;
-      inside = zero-le;
-      ready = none-ready c t z;
-      rest = none-ahead c t z ∙ sym (rw (ne-eqb (questionNumber c t a z) 0 (λ q. h (e ∙ q))));
-    }
-
-pub opened-reader : {c : List ℕ} {t a z n : ℕ} {w : Walk} → n ≡ questionNumber c t a z → n ≡ 0 → Opened c t a z w → Stands c t a z 0 (record { number = n; at = 0; left = 0; walk = w })
-unfolding allYielded
-opened-reader {c} {t} {a} {z} {n} {w} e h o =
-    record {
-      number = e;
-      inside = zero-le;
-      ready = o .ready;
-      rest = o .found ∙ sym (rw (eq-eqb (questionNumber c t a z) 0 (sym e ∙ h)));
-    }
+opened-reader s = (s .number, record { inside = zero-le; ready = s .ready; rest = s .wanted })
 
 -- what is yielded, by what is left
 yields-head : (ys : List ℕ) (n x : ℕ) (xs : List ℕ) → x ∷ xs ≡ drop n ys → (getD (map posting ys) n ended ≡ posting x) × (xs ≡ drop (suc n) ys)
@@ -71,15 +39,15 @@ yields-end (y ∷ ys) (suc n) e = yields-end ys n e
 
 -- a posting is left
 pub stepped-posting :
-    {c : List ℕ} {m at left : ℕ} {w : Walk} → 0 < left → at < length c →
-    Stepped c (record { number = m; at = at; left = left; walk = w }) (record { yielded = Posting (getD c at 0); cursor = record { number = m; at = at + 1; left = left - 1; walk = w } })
+    {c : List ℕ} {at left : ℕ} {w : Walk} → 0 < left → at < length c →
+    Stepped c (record { at = at; left = left; walk = w }) (record { yielded = Posting (getD c at 0); cursor = record { at = at + 1; left = left - 1; walk = w } })
 unfolding yielded
-stepped-posting {c} {m} {at} {left} {w} l h =
+stepped-posting {c} {at} {left} {w} l h =
     record {
+      word = record { index = at; below = h; same = refl };
       yields = λ t a z n s. sym (next t a z n s .0);
       stands = λ t a z n s.
           record {
-            number = s .number;
             inside = omega (arith, s .inside);
             ready = s .ready;
             rest = rw (add-one n) (next t a z n s .1);
@@ -93,58 +61,59 @@ stepped-posting {c} {m} {at} {left} {w} l h =
         go zero q = absurd (omega arith)
         go (suc k) q = let e : suc k - 1 ≡ k = omega arith in rw (e, add-one at)
 
-    next : (t a z n : ℕ) → Stands c t a z n (record { number = m; at = at; left = left; walk = w }) → (getD (map posting (allYielded c t a z)) n ended ≡ posting (getD c at 0)) × (take (left - 1) (drop (at + 1) c) ++ ahead c w ≡ drop (suc n) (allYielded c t a z))
+    next : (t a z n : ℕ) → Stands c t a z n (record { at = at; left = left; walk = w }) → (getD (map posting (allYielded c t a z)) n ended ≡ posting (getD c at 0)) × (take (left - 1) (drop (at + 1) c) ++ ahead c w ≡ drop (suc n) (allYielded c t a z))
     next t a z n s = yields-head (allYielded c t a z) n (getD c at 0) (take (left - 1) (drop (at + 1) c) ++ ahead c w) (ap (λ l. l ++ ahead c w) (sym part) ∙ s .rest)
 
 -- the cursor is no reader's
 pub stepped-astray :
-    {c : List ℕ} {m at left : ℕ} {w : Walk} (r : Step) → 0 < left → length c ≤ at → Stepped c (record { number = m; at = at; left = left; walk = w }) r
-stepped-astray r l h =
+    {c : List ℕ} {at left : ℕ} {w : Walk} (r : Step) → OfCard c (yieldOf (r .yielded)) → 0 < left → length c ≤ at → Stepped c (record { at = at; left = left; walk = w }) r
+stepped-astray r o l h =
     record {
+      word = o;
       yields = λ t a z n s. absurd (let i = s .inside in let z : ⊥ = omega arith in z);
       stands = λ t a z n s. absurd (let i = s .inside in let z : ⊥ = omega arith in z);
     }
 
 -- no posting is left
 pub stepped-none :
-    {c : List ℕ} {m at left : ℕ} {w : Walk} {r : Step} → left ≡ 0 → Stepped c (record { number = m; at = at; left = 0; walk = w }) r →
-    Stepped c (record { number = m; at = at; left = left; walk = w }) r
+    {c : List ℕ} {at left : ℕ} {w : Walk} {r : Step} → left ≡ 0 → Stepped c (record { at = at; left = 0; walk = w }) r →
+    Stepped c (record { at = at; left = left; walk = w }) r
 stepped-none e s = rw e s
 
 -- the next run is found
 over :
-    {c : List ℕ} {m at : ℕ} {w : Walk} {r : WalkRun} → Next c w r → (t a z n : ℕ) →
-    Stands c t a z n (record { number = m; at = at; left = 0; walk = w }) →
-    Stands c t a z n (record { number = m; at = r .start; left = r .len; walk = r .rest })
-over x t a z n s = record { number = s .number; inside = x .inside; ready = x .ready (s .ready); rest = sym (x .rest (s .ready)) ∙ s .rest }
+    {c : List ℕ} {at : ℕ} {w : Walk} {r : WalkRun} → Next c w r → (t a z n : ℕ) →
+    Stands c t a z n (record { at = at; left = 0; walk = w }) →
+    Stands c t a z n (record { at = r .start; left = r .len; walk = r .rest })
+over x t a z n s = record { inside = x .inside; ready = x .ready (s .ready); rest = sym (x .rest (s .ready)) ∙ s .rest }
 
 pub stepped-over :
-    {c : List ℕ} {m : ℕ} {w : Walk} {r : WalkRun} (at : ℕ) → Next c w r → 0 < r .len →
-    Stepped c (record { number = m; at = at; left = 0; walk = w }) (record { yielded = Posting (getD c (r .start) 0); cursor = record { number = m; at = r .start + 1; left = r .len - 1; walk = r .rest } })
-stepped-over {c} {m} {w} {r} at x l =
-    let s : Stepped c (record { number = m; at = r .start; left = r .len; walk = r .rest }) _ = stepped-posting {m = m} {w = r .rest} l (omega (arith, x .inside)) in
-    record { yields = λ t a z n q. s .yields t a z n (over x t a z n q); stands = λ t a z n q. s .stands t a z n (over x t a z n q) }
+    {c : List ℕ} {w : Walk} {r : WalkRun} (at : ℕ) → Next c w r → 0 < r .len →
+    Stepped c (record { at = at; left = 0; walk = w }) (record { yielded = Posting (getD c (r .start) 0); cursor = record { at = r .start + 1; left = r .len - 1; walk = r .rest } })
+stepped-over {c} {w} {r} at x l =
+    let s : Stepped c (record { at = r .start; left = r .len; walk = r .rest }) _ = stepped-posting {w = r .rest} l (omega (arith, x .inside)) in
+    record { word = s .word; yields = λ t a z n q. s .yields t a z n (over x t a z n q); stands = λ t a z n q. s .stands t a z n (over x t a z n q) }
 
 pub stepped-end :
-    {c : List ℕ} {m : ℕ} {w : Walk} {r : WalkRun} (at : ℕ) → Next c w r → r .len ≡ 0 →
-    Stepped c (record { number = m; at = at; left = 0; walk = w }) (record { yielded = End; cursor = record { number = m; at = r .start; left = 0; walk = r .rest } })
+    {c : List ℕ} {w : Walk} {r : WalkRun} (at : ℕ) → Next c w r → r .len ≡ 0 →
+    Stepped c (record { at = at; left = 0; walk = w }) (record { yielded = End; cursor = record { at = r .start; left = 0; walk = r .rest } })
 unfolding yielded
-stepped-end {c} {m} {w} {r} at x l =
+stepped-end {c} {w} {r} at x l =
     record {
+      word = tt;
       yields = λ t a z n q. sym (yields-end (allYielded c t a z) n (nothing t a z n q) .0);
       stands = λ t a z n q.
           record {
-            number = q .number;
             inside = omega (arith, x .inside);
             ready = x .ready (q .ready);
             rest = rw (add-one n) (behind t a z n q ∙ yields-end (allYielded c t a z) n (nothing t a z n q) .1);
           };
     }
   where
-    nothing : (t a z n : ℕ) → Stands c t a z n (record { number = m; at = at; left = 0; walk = w }) → [] ≡ drop n (allYielded c t a z)
+    nothing : (t a z n : ℕ) → Stands c t a z n (record { at = at; left = 0; walk = w }) → [] ≡ drop n (allYielded c t a z)
     nothing t a z n q = sym (x .none (q .ready) l) ∙ q .rest
 
-    behind : (t a z n : ℕ) → Stands c t a z n (record { number = m; at = at; left = 0; walk = w }) → ahead c (r .rest) ≡ []
+    behind : (t a z n : ℕ) → Stands c t a z n (record { at = at; left = 0; walk = w }) → ahead c (r .rest) ≡ []
     behind t a z n q = sym (rw l at (x .rest (q .ready))) ∙ x .none (q .ready) l
 
 -- behind the end there is the end
