@@ -15,11 +15,12 @@ TEST_FILES = tests/c/test_gameindex.c tests/c/format_judge.c tests/c/step.c test
 C_FILES = $(wildcard include/*.h host/*.[ch] tests/c/*.[ch] bench/*.[ch])
 
 .DELETE_ON_ERROR:
-.PHONY: help run test bench fmt clean
+.PHONY: help run test pins bench fmt clean
 
 help:
 	@echo 'make run     build the library and the host program; make a card, apply a batch, look up'
 	@echo 'make test    run the merge gate, .ci/run'
+	@echo 'make pins    write tests/pins anew, which the gate holds the source to; read its diff'
 	@echo 'make bench   time the judge against one in plain C, steps and lookups against the judge'
 	@echo 'make fmt     format Rattle, Rust and C files'
 	@echo 'make clean   remove all that was built'
@@ -37,6 +38,9 @@ run: target/gameindex
 
 test:
 	.ci/run
+
+pins:
+	.ci/pins write
 
 bench: target/bench_judge target/bench_step target/bench_batches target/bench_lookup
 	target/bench_judge
@@ -64,9 +68,9 @@ $(LIBRARY): $(SOURCES)
 target/gameindex: $(HOST_FILES) $(HOST_HEADERS) $(HEADER) $(LIBRARY)
 	$(CC) $(WARNINGS) $(OPTIMISE) -Iinclude -o $@ $(HOST_FILES) $(LIBRARY)
 
-# the host program as it is, but for file writes that can fail as with the power
+# the host program as it is, but for a medium apart from the card file, which power cuts and failing syncs are tried on
 target/gameindex_cut: $(HOST_FILES) $(HOST_HEADERS) tests/c/power_cut.c $(HEADER) $(LIBRARY)
-	$(CC) $(WARNINGS) $(OPTIMISE) -Iinclude -Wl,--wrap=pwrite,--wrap=fdatasync -o $@ $(HOST_FILES) tests/c/power_cut.c $(LIBRARY)
+	$(CC) $(WARNINGS) $(OPTIMISE) -Iinclude -Wl,--wrap=main,--wrap=pwrite,--wrap=fdatasync,--wrap=fsync -o $@ $(HOST_FILES) tests/c/power_cut.c $(LIBRARY)
 
 target/test_gameindex: $(TEST_FILES) tests/c/small_cards.h $(HEADER) $(LIBRARY)
 	$(CC) $(WARNINGS) $(OPTIMISE) -Iinclude -o $@ $(TEST_FILES) $(LIBRARY)

@@ -22,14 +22,16 @@ struct card_file {
 /* Says on stderr what is wrong with a file, and gives EXIT_FAULT. */
 int fault(const char *path, const char *form, ...);
 
-/* Opens a card file and reads its words. Until it is closed no other run may
- * write it, nor read it where this one may write. Of a file longer than the
- * largest card one word more than that is read: every call of the library gives
- * the same number for all such lengths. */
+/* Opens a card file and reads its words; they are on the medium, also those
+ * that a killed run left unsynced. Until it is closed no other run may write it,
+ * nor read it where this one may write. Of a file longer than the largest card
+ * one word more than that is read: every call of the library gives the same
+ * number for all such lengths. */
 int card_open(struct card_file *card, const char *path, bool writable);
 
 /* Writes count words from word first on back to their place in the file; they
- * are on the medium when it returns. */
+ * are on the medium when it gives EXIT_DONE. After another status nothing more
+ * may be written in this run. */
 int card_store(const struct card_file *card, size_t first, size_t count);
 
 /* Closes the file and gives the memory back. */

@@ -1,10 +1,11 @@
 /* gameindex: the host program of the game index, over libgameindex.a.
  *
- * Exit status: 0 done, 1 the index refused (the number is shown), 2 the file or
- * the command line is at fault. */
+ * Exit status: 0 done, 1 the index refused (the number is shown), 2 a file, the
+ * output or the command line is at fault. */
 #define _POSIX_C_SOURCE 200809L
 
 #include <errno.h>
+#include <fcntl.h>
 #include <inttypes.h>
 #include <stdbool.h>
 #include <stdio.h>
@@ -141,7 +142,8 @@ static void usage(FILE *out) {
         fprintf(out, "  %-7s %-20s %s\n", commands[i].name, commands[i].words, commands[i].about);
     fprintf(out, "\nfiles are 32-bit words, little-endian; a batch is records of four: kind (1 adds, 2 removes),\n"
                  "term, from, to, by term, then from; an addition has from and to alike\n");
-    fprintf(out, "\nexit status: 0 done, 1 refused (the number is shown), 2 a fault of the file or the command line\n");
+    fprintf(out, "\nexit status: 0 done, 1 refused (the number is shown), 2 a fault of a file, the output or the "
+                 "command line\n");
 }
 
 static int run_command(int count, char **words) {
@@ -158,11 +160,31 @@ static int run_command(int count, char **words) {
     return EXIT_FAULT;
 }
 
+/* ---- the standard streams */
+
+/* Takes the place of every standard stream that is closed, so that no card is
+ * opened there and written over with what is said. Such a stream cannot be
+ * read or written. */
+static bool take_streams(void) {
+    for (int stream = STDIN_FILENO; stream <= STDERR_FILENO; stream++)
+        /* what is opened is the lowest that is closed, so this one */
+        if (fcntl(stream, F_GETFD) < 0 && open("/dev/null", stream == STDIN_FILENO ? O_WRONLY : O_RDONLY) != stream)
+            return false;
+    return true;
+}
+
+/* Ends standard output and gives the exit status: a run whose output was not
+ * written as a whole is at fault, whatever it did. */
+static int end_output(int status) {
+    bool lost = ferror(stdout);
+    errno = 0;
+    if (fclose(stdout) == 0 && !lost)
+        return status;
+    return fault("standard output", "%s", errno != 0 ? strerror(errno) : "not all of it was written");
+}
+
 int main(int argc, char **argv) {
-    int status = run_command(argc > 0 ? argc - 1 : 0, argv + 1);
-    if (fflush(stdout) != 0 || ferror(stdout)) {
-        fprintf(stderr, "gameindex: standard output: %s\n", strerror(errno));
-        return EXIT_FAULT;
-    }
-    return status;
+    if (!take_streams())
+        return fault("/dev/null", "%s", strerror(errno));
+    return end_output(run_command(argc > 0 ? argc - 1 : 0, argv + 1));
 }

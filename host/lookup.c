@@ -9,9 +9,10 @@
 #include "gameindex.h"
 #include "report.h"
 
-/* A question to the index. */
+/* A question to the index: a term's running numbers, all or those in a range. */
 struct question {
     uint32_t term;
+    bool ranged;
     uint32_t from;
     uint32_t to;
 };
@@ -24,8 +25,10 @@ static int look_up(const struct card_file *card, struct question asked) {
         return fault(card->path, "no memory for %zu words", card->length);
     uint32_t found;
     uint32_t blocks;
-    uint32_t number =
-        gi_lookup(card->words, card->length, asked.term, asked.from, asked.to, answer, card->length, &found, &blocks);
+    uint32_t number = asked.ranged
+                          ? gi_lookup(card->words, card->length, asked.term, asked.from, asked.to, answer, card->length,
+                                      &found, &blocks)
+                          : gi_lookup_all(card->words, card->length, asked.term, answer, card->length, &found, &blocks);
     int status = EXIT_DONE;
     if (number != GI_DONE) {
         status = refused(card->path, number);
@@ -40,10 +43,9 @@ static int look_up(const struct card_file *card, struct question asked) {
 }
 
 int run_lookup(char **words) {
-    struct question asked = {.from = GI_LOWEST, .to = GI_HIGHEST};
-    bool ranged = words[2] != NULL;
+    struct question asked = {.ranged = words[2] != NULL, .from = GI_LOWEST, .to = GI_HIGHEST};
     if (!parse_word(words[1], &asked.term) ||
-        (ranged && (!parse_word(words[2], &asked.from) || !parse_word(words[3], &asked.to)))) {
+        (asked.ranged && (!parse_word(words[2], &asked.from) || !parse_word(words[3], &asked.to)))) {
         fprintf(stderr, "gameindex: TERM, FROM and TO are decimal numbers of 32 bits\n");
         return EXIT_FAULT;
     }

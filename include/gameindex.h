@@ -123,10 +123,20 @@ uint32_t gi_step(uint32_t *card, size_t card_len, const uint32_t *batch, size_t 
 uint32_t gi_lookup(const uint32_t *card, size_t card_len, uint32_t term, uint32_t from, uint32_t to, uint32_t *answer,
                    size_t answer_len, uint32_t *found, uint32_t *blocks);
 
-/* Reads the first positions of the same question, as many as there are answer
+/* Looks up all positions of a term: what gi_lookup does and gives with GI_LOWEST
+ * as from and GI_HIGHEST as to.
+ *
+ * Gives the judge's number for a card that is not sound; then 9 where term is 0;
+ * then 10 where there are more positions than answer_len. After a refusal found
+ * and blocks are 0 and no answer word has changed. Gives 0 otherwise. Writes
+ * nothing to the card. */
+uint32_t gi_lookup_all(const uint32_t *card, size_t card_len, uint32_t term, uint32_t *answer, size_t answer_len,
+                       uint32_t *found, uint32_t *blocks);
+
+/* Reads the first positions of gi_lookup's question, as many as there are answer
  * words: one after another into the first of them, their number in found; other
  * answer words are left as they are. Where found is answer_len there may be more:
- * ask again from one above the last.
+ * ask again from one above the last. Where the last is GI_HIGHEST there is no more.
  *
  * Gives the judge's number for a card that is not sound, then 9 as the lookup
  * does, and never 10. After a refusal found is 0 and no answer word has changed.

@@ -1,12 +1,13 @@
 #!/usr/bin/env bash
 # Tests the host program on card files in a temporary folder: host.sh PROGRAM CUT
-# CUT is its test build whose file writes can fail as with the power (power_cut.c).
+# CUT is its test build with a medium apart from the card file (power_cut.c).
 # Prints each failing check and, as its last line, 'N passed, M failed'.
 set -u
 export LC_ALL=C
 program=$(readlink -f -- "${1:?usage: host.sh PROGRAM CUT}")
 cut=$(readlink -f -- "${2:?usage: host.sh PROGRAM CUT}")
-to_words=$(readlink -f -- "$(dirname -- "$0")/words.sh")
+here=$(dirname -- "$(readlink -f -- "$0")")
+to_words=$here/words.sh
 room=$(mktemp -d) || exit 1
 trap 'rm -rf "$room"' EXIT
 cd "$room" || exit 1
@@ -21,13 +22,15 @@ check() { # WHAT COMMAND..: the command must succeed
     fi
 }
 
-run() { # STATUS WHAT WORDS..: the program, run with the words, must exit with the status
+expect() { # STATUS WHAT COMMAND..: the command must exit with the status
     local expected=$1 what=$2
     shift 2
-    "$program" "$@" >out 2>err
+    { "$@" >out 2>err; } 2>/dev/null
     local status=$?
     check "$what: exit status $status, expected $expected" [ "$status" -eq "$expected" ]
 }
+run() { expect "$1" "$2" "$program" "${@:3}"; } # STATUS WHAT WORDS..: the program with the words
+run_cut() { expect "$1" "$2" "$cut" "${@:3}"; } # the same with its test build
 
 # the words of a file, decimal, from word FIRST on
 words() { od -An -v -tu4 --endian=little -w4 -j $(($2 * 4)) "$1" | tr -s ' \n' ' '; }
@@ -97,7 +100,7 @@ batch() { "$to_words" "${@:2}" >"$1"; } # FILE WORDS..: makes a batch file
 configuration() { words "$1" 0 | cut -d' ' -f2-9; }
 # the live pairs of a sound card, rising, 'term position' to a line
 pairs() {
-    "$program" judge "$1" >/dev/null || { echo 'not sound' && return; }
+    "$cut" judge "$1" >/dev/null || { echo 'not sound' && return; }
     od -An -v -tu4 --endian=little -w4 "$1" | awk '
         { w[NR - 1] = $1 + 0 }
         function segment(start, count, above_term, above_position,    i, at, end, k) {
@@ -135,11 +138,11 @@ check 'no pairs' [ -z "$(pairs case.card)" ]
 script -qec "'$program' apply case.card one.batch" /dev/null >out </dev/null
 check 'progress on a terminal' grep -q 'step 1: new length 0, old length' out
 
-# each write is the step's, in its order, and synced before the next
+# what was there is on the medium first, and then each write is the step's, in its order, and synced before the next
 cp case1.card log.card
 WRITE_LOG=log "$cut" apply log.card more.batch >out
 check 'the writes of case 3' [ "$(tr '\n' ',' <log)" = \
-    'write 96 32,sync,write 40 8,sync,write 0 32,sync,write 128 32,sync,write 48 8,sync,write 0 32,sync,' ]
+    'sync,folder,write 96 32,sync,write 40 8,sync,write 0 32,sync,write 128 32,sync,write 48 8,sync,write 0 32,sync,' ]
 
 # refusals: shown with their number, and the file stands
 refused() { # NUMBER WHAT CARD BATCH
@@ -219,54 +222,10 @@ check 'the message names the use' grep -q 'in use' err
 exec 3>&-
 check 'the run that waited goes on' wait "$waiting"
 
-# ---- the power fails at each write of a pass
-
-# Applies a batch to copies of a card, with the power failing at each of the
-# pass's writes in each way, and then once more, uncut.
-cuts() { # WHAT CARD BATCH PAIRS
-    local what=$1 card=$2 batch=$3 expected=$4 writes write how
-    rm -f log && cp "$card" cut.card
-    WRITE_LOG=log "$cut" apply cut.card "$batch" >out
-    check "$what: uncut" [ "$(pairs cut.card)" = "$expected" ]
-    writes=$(grep -c write log)
-    check "$what: its writes" [ "${writes:-0}" -gt 0 ]
-    for write in $(seq "${writes:-0}"); do
-        for how in before torn half after synced; do
-            cp "$card" cut.card
-            { CUT_WRITE=$write CUT_HOW=$how "$cut" apply cut.card "$batch" >out; } 2>/dev/null
-            check "$what: killed at write $write, $how" [ $? -eq 137 ]
-            run 0 "$what: sound after write $write, $how" judge cut.card
-            run 0 "$what: again after write $write, $how" apply cut.card "$batch"
-            check "$what: the pairs after write $write, $how" [ "$(pairs cut.card)" = "$expected" ]
-        done
-    done
-
-    # one write to a run, each with its power failing
-    for how in torn after; do
-        cp "$card" cut.card
-        for write in $(seq "${writes:-0}"); do
-            { CUT_WRITE=1 CUT_HOW=$how "$cut" apply cut.card "$batch" >out; } 2>/dev/null
-            check "$what: killed again and again, $how" [ $? -eq 137 ]
-            run 0 "$what: sound all the time, $how" judge cut.card
-        done
-        run 0 "$what: in the end, $how" apply cut.card "$batch"
-        check "$what: the pairs in the end, $how" [ "$(pairs cut.card)" = "$expected" ]
-    done
-}
-
-run 0 'format a card for the cuts' format grow.card 8 6
-head -c 192 /dev/zero | tr '\0' '\125' | dd of=grow.card bs=4 seek=20 conv=notrunc status=none # words of another life
-batch grow.batch 1 5 2 2 1 5 9 9 1 7 4 4 1 8 1 1 1 8 2 2 1 8 3 3
-cuts 'growth' grow.card grow.batch $'5 2\n5 9\n7 4\n8 1\n8 2\n8 3'
-run 0 'grow' apply grow.card grow.batch
-lookup '1 2 3 ' '3 positions, 1 block read' 'look up what was added' grow.card 8
-batch change.batch 1 1 1 1 2 5 1 5 1 7 9 9 2 8 2 2 1 8 9 9 2 9 1 7
-cuts 'change around the circle' grow.card change.batch $'1 1\n5 9\n7 4\n7 9\n8 1\n8 3\n8 9'
-run 0 'change' apply grow.card change.batch
-batch shrink.batch 2 5 1 99 2 7 1 99 2 8 1 8
-cuts 'shrinking' grow.card shrink.batch $'1 1\n8 9'
-batch end.batch 2 1 1 1 2 5 1 99 2 7 1 99 2 8 1 99
-cuts 'removal of everything' grow.card end.batch ''
+# shellcheck source=tests/c/host_medium.sh
+. "$here/host_medium.sh"
+# shellcheck source=tests/c/host_streams.sh
+. "$here/host_streams.sh"
 
 # faults of files and of the command line go to stderr
 run 2 'judge a file that is not there' judge none.card

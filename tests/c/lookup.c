@@ -1,4 +1,4 @@
-/* Tests of gi_lookup, gi_read and gi_run_view: the small cases with every figure,
+/* Tests of gi_lookup, gi_lookup_all, gi_read and gi_run_view: the small cases with every figure,
  * open passes, the counts of blocks, and the refusals. */
 #include "small_cards.h"
 
@@ -23,24 +23,34 @@ static bool holds(const uint32_t *memory, size_t length, const uint32_t *positio
     return as_expected;
 }
 
-/* Looks up with an answer of some words, and sees that the number, the counts and
- * every word lent are as expected. */
-static void ask(struct card card, size_t length, uint32_t term, uint32_t from, uint32_t to, size_t answer_length,
-                uint32_t number, const uint32_t *positions, size_t count, uint32_t blocks, const char *group,
-                const char *what) {
+/* Looks up a range of a term, or all of it, with an answer of some words, and sees
+ * that the number, the counts and every word lent are as expected. */
+static void ask_as(bool all, struct card card, size_t length, uint32_t term, uint32_t from, uint32_t to,
+                   size_t answer_length, uint32_t number, const uint32_t *positions, size_t count, uint32_t blocks,
+                   const char *group, const char *what) {
     uint32_t *memory = new_answer(answer_length, group);
     if (memory == NULL)
         return;
     struct card before = card;
     uint32_t found = UNUSED;
     uint32_t blocks_read = UNUSED;
-    check_number(gi_lookup(card.words, length, term, from, to, memory + 1, answer_length, &found, &blocks_read), number,
-                 group, what);
+    check_number(all ? gi_lookup_all(card.words, length, term, memory + 1, answer_length, &found, &blocks_read)
+                     : gi_lookup(card.words, length, term, from, to, memory + 1, answer_length, &found, &blocks_read),
+                 number, group, what);
     check_number(found, (uint32_t)count, group, what);
     check_number(blocks_read, blocks, group, what);
     check(holds(memory, answer_length, positions, count), group, what);
     check(memcmp(card.words, before.words, sizeof before.words) == 0, group, "the lookup wrote nothing to the card");
     free(memory);
+}
+
+/* Looks up a range; where it is that of all positions, all of the term as well. */
+static void ask(struct card card, size_t length, uint32_t term, uint32_t from, uint32_t to, size_t answer_length,
+                uint32_t number, const uint32_t *positions, size_t count, uint32_t blocks, const char *group,
+                const char *what) {
+    ask_as(false, card, length, term, from, to, answer_length, number, positions, count, blocks, group, what);
+    if (from == GI_LOWEST && to == GI_HIGHEST)
+        ask_as(true, card, length, term, from, to, answer_length, number, positions, count, blocks, group, what);
 }
 
 /* The same of a reading. */
@@ -116,7 +126,8 @@ static void many_blocks(void) {
 
     struct card card = WITH(CARD(1, 8, 4, 2, 3, 0, 0, 0), 2, 6, 6, 1, 2, 3, 4, 5, 6);
     card = WITH(WITH(card, 3, 6, 6, 7, 8, 9, 10, 11, 12), 0, 6, 1, 13, 9, 1, 1, 0, 0);
-    found(card, 6, 1, UINT32_MAX, FOUND(1, 2, 3, 4, 5, 6, 7, 8, 9, 10, 11, 12, 13), 3, group, "a term over three");
+    found(card, 6, GI_LOWEST, GI_HIGHEST, FOUND(1, 2, 3, 4, 5, 6, 7, 8, 9, 10, 11, 12, 13), 3, group,
+          "a term over three");
     found(card, 6, 6, 7, FOUND(6, 7), 2, group, "the end of one and the start of the next");
     found(card, 6, 7, 12, FOUND(7, 8, 9, 10, 11, 12), 1, group, "the one in the middle");
     found(card, 6, 8, 13, FOUND(8, 9, 10, 11, 12, 13), 2, group, "from the middle around the circle");
@@ -132,6 +143,7 @@ static void open_pass(void) {
     const char *group = "an open pass";
     found(wrapped(), 1, 1, 9, FOUND(1, 2), 1, group, "a term of the new segment");
     found(wrapped(), 2, 1, 9, FOUND(1, 5), 2, group, "a term of both, the boundary once");
+    found(wrapped(), 2, GI_LOWEST, GI_HIGHEST, FOUND(1, 5), 2, group, "all of a term of both");
     found(wrapped(), 2, 1, 1, FOUND(1), 2, group, "the boundary alone");
     found(wrapped(), 2, 2, 9, FOUND(5), 2, group, "above the boundary");
     found(wrapped(), 3, 1, 9, FOUND(1), 2, group, "a term of the old segment");
@@ -221,9 +233,15 @@ static void refusals(void) {
     refused(case1(), WORDS, 5, 9, 8, 9, "from above to");
     refused(case1(), WORDS, 5, UINT32_MAX, 1, 9, "from the highest to the lowest");
     refused(case1(), WORDS, 0, 0, 0, 9, "all 0");
+    refused(case1(), WORDS, 0, GI_LOWEST, GI_HIGHEST, 9, "all of term 0");
     refused(CARD(1, 8, 4, 0, 0, 0, 0, 0), WORDS, 0, 1, 9, 9, "term 0 of an empty index");
-    for (size_t length = 0; length < WORDS; length += 5)
+    for (size_t length = 0; length < WORDS; length += 5) {
         refused(case1(), length, 0, 1, 9, 1, "1 before 9");
+        refused(case1(), length, 0, GI_LOWEST, GI_HIGHEST, 1, "1 before 9, all of a term");
+    }
+    refused(changed(case1(), GI_CONFIG_FORMAT, 0), WORDS, 0, GI_LOWEST, GI_HIGHEST, 2, "2 before 9, all of a term");
+    refused(changed(case1(), GI_CONFIG_BLOCK_WORDS, 7), WORDS, 5, GI_LOWEST, GI_HIGHEST, 3, "3, all of a term");
+    refused(changed(case1(), map_word(0, 0), 4), WORDS, 5, GI_LOWEST, GI_HIGHEST, 4, "4, all of a term");
     refused(changed(case1(), GI_CONFIG_FORMAT, 0), WORDS, 0, 1, 9, 2, "2 before 9");
     refused(changed(case1(), GI_CONFIG_BLOCK_WORDS, 7), WORDS, 5, 9, 8, 3, "3 before 9");
     refused(changed(case1(), GI_CONFIG_BOUNDARY_TERM, 7), WORDS, 5, 1, 9, 3, "3, a good question");

@@ -32,6 +32,15 @@ mod c {
             found: *mut u32,
             blocks: *mut u32,
         ) -> u32;
+        pub fn gi_lookup_all(
+            card: *const u32,
+            card_len: usize,
+            term: u32,
+            answer: *mut u32,
+            answer_len: usize,
+            found: *mut u32,
+            blocks: *mut u32,
+        ) -> u32;
         pub fn gi_run_view(
             card: *const u32,
             card_len: usize,
@@ -101,6 +110,29 @@ pub fn lookup(card: &[u32], term: u32, from: u32, to: u32, answer: &mut [u32]) -
             term,
             from,
             to,
+            answer.as_mut_ptr(),
+            answer.len(),
+            &mut count,
+            &mut blocks,
+        )
+    };
+    LookupAnswer {
+        number,
+        count,
+        blocks,
+    }
+}
+
+/// The lookup of all positions of a term.
+pub fn lookup_all(card: &[u32], term: u32, answer: &mut [u32]) -> LookupAnswer {
+    let (mut count, mut blocks) = (UNWRITTEN, UNWRITTEN);
+    // SAFETY: each pointer and length are those of one slice; the answer's is lent for writing, and
+    // the counts are words of this call.
+    let number = unsafe {
+        c::gi_lookup_all(
+            card.as_ptr(),
+            card.len(),
+            term,
             answer.as_mut_ptr(),
             answer.len(),
             &mut count,

@@ -34,6 +34,12 @@ fn lookup_on_the_papers_cases() {
             assert_eq!(answer[..positions.len()], *positions);
             assert!(answer[positions.len()..].iter().all(|&word| word == 77));
             comparisons += 1;
+            if (from, to) == (1, TOP) {
+                let mut whole = vec![77; room];
+                let given = ffi::lookup_all(card, term, &mut whole);
+                assert_eq!((given, whole), (expected, answer), "all of term {term}");
+                comparisons += 1;
+            }
         };
         ask(&card, (5, 1, 9), 2, (0, 0, 0), &[]);
         while !ffi::step(&mut card, &batch).finished {}
@@ -45,6 +51,9 @@ fn lookup_on_the_papers_cases() {
         ask(&card, (6, 1, 9), 4, (0, 0, 1), &[]);
         ask(&card, (5, 2, 2), 1, (0, 1, 1), &[2]);
         ask(&card, (7, 1, TOP), 1, (0, 1, 1), &[4]);
+        ask(&card, (5, 1, TOP), 3, (0, 2, 1), &[2, 9]);
+        ask(&card, (5, 1, TOP), 1, (10, 0, 0), &[]);
+        ask(&card, (0, 1, TOP), 2, (9, 0, 0), &[]);
         ask(&card, (5, 1, 1), 1, (0, 0, 0), &[]);
         for question in [
             (0, 1, 9),
@@ -134,11 +143,56 @@ fn every_question(terms: &[u32], positions: &[u32]) -> Vec<Question> {
     questions
 }
 
+/// What stands around the answer words of a lookup of all positions.
+const AROUND: [u32; 3] = [0x5EED_0001, 0x5EED_0002, 0x5EED_0003];
+
+/// The lookup of all positions of a term gives what the second program finds from the lowest
+/// position to the highest, in so many answer words; it leaves the words around them and the card.
+fn lookup_all(tally: &mut Tally, random: &mut Random, card: &[u32], term: u32, room: usize) {
+    let answer = random.words(room);
+    let mut expected_words = answer.clone();
+    let expected = second::lookup(card, term, 1, TOP, &mut expected_words);
+    let before = card.to_vec();
+    let mut memory = [&AROUND[..], &answer, &AROUND].concat();
+    let reply = ffi::lookup_all(card, term, &mut memory[3..3 + room]);
+    let about = || format!("all of term {term}, {room} answer words, card {before:?}");
+    assert_eq!(reply, expected, "{}", about());
+    if reply.number != 0 {
+        assert_eq!((reply.count, reply.blocks), (0, 0), "{}", about());
+        assert!(memory[3..3 + room] == answer, "{}", about());
+    }
+    assert!(memory[3..3 + room] == expected_words, "{}", about());
+    let around = memory[..3] == AROUND && memory[3 + room..] == AROUND;
+    assert!(around && before == card, "{}", about());
+    tally.note(reply.number);
+}
+
+/// The same of every term of the questions with just enough answer words, one too few, some too
+/// few and some more.
+fn lookups_all(tally: &mut Tally, random: &mut Random, card: &[u32], questions: &[Question]) {
+    let mut terms: Vec<u32> = questions.iter().map(|question| question.0).collect();
+    terms.sort_unstable();
+    terms.dedup();
+    for term in terms {
+        let found = second::PostingReader::open(card, term, 1, TOP).count();
+        let more = found + 1 + random.below(6);
+        for room in [found, more] {
+            lookup_all(tally, random, card, term, room);
+        }
+        if found > 0 {
+            for room in [found - 1, random.below(found)] {
+                lookup_all(tally, random, card, term, room);
+            }
+        }
+    }
+}
+
 /// Every question on cards over a small universe, at every moment of their passes.
 #[test]
 fn lookup_of_every_question_on_small_cards() {
     let mut random = Random::new(41);
     let mut tally = Tally::new();
+    let mut whole = Tally::new();
     let mut seen = Seen::default();
     let mut cards_asked = 0;
     let worlds = [
@@ -193,6 +247,7 @@ fn lookup_of_every_question_on_small_cards() {
                         );
                         seen.note(&card, question, &reply);
                     }
+                    lookups_all(&mut whole, &mut random, &card, questions);
                 }
                 if answer.number != 0 || answer.finished {
                     break;
@@ -201,8 +256,10 @@ fn lookup_of_every_question_on_small_cards() {
         }
     }
     tally.report("lookup_of_every_question_on_small_cards");
+    whole.report("lookup_of_every_question_on_small_cards, all of a term");
     println!("lookup_of_every_question_on_small_cards: {cards_asked} cards, {seen:?}");
     tally.expect(&[0, 9, 10], 10_000);
+    whole.expect(&[0, 9, 10], 300);
     seen.expect(50);
 }
 
@@ -212,6 +269,7 @@ fn lookup_of_every_question_on_small_cards() {
 fn lookup_across_many_blocks() {
     let mut random = Random::new(42);
     let mut tally = Tally::new();
+    let mut whole = Tally::new();
     let mut seen = Seen::default();
     for round in 0..36 {
         let n = random.within(4, 12);
@@ -255,7 +313,9 @@ fn lookup_across_many_blocks() {
         assert_eq!(second::judge(&card), 0);
         let terms: Vec<u32> = (1..=2 * terms + 1).collect();
         let positions: Vec<u32> = (0..=most + 1).collect();
-        for question in every_question(&terms, &positions) {
+        let questions = every_question(&terms, &positions);
+        lookups_all(&mut whole, &mut random, &card, &questions);
+        for question in questions {
             // Of those that are refused a few will do.
             if question.1 > question.2 && random.chance(7, 8) {
                 continue;
@@ -265,8 +325,10 @@ fn lookup_across_many_blocks() {
         }
     }
     tally.report("lookup_across_many_blocks");
+    whole.report("lookup_across_many_blocks, all of a term");
     println!("lookup_across_many_blocks: {seen:?}");
     tally.expect(&[0, 9, 10], 10_000);
+    whole.expect(&[0, 10], 50);
     seen.expect(500);
 }
 
@@ -316,6 +378,7 @@ fn known_pairs(card: &[u32]) -> Vec<Pair> {
 fn lookup_on_cards_of_many_shapes() {
     let mut random = Random::new(43);
     let mut tally = Tally::new();
+    let mut whole = Tally::new();
     let mut seen = Seen::default();
     for round in 0..1500 {
         let (b, n) = match round % 4 {
@@ -335,12 +398,16 @@ fn lookup_on_cards_of_many_shapes() {
             let about = || format!("B {b}, N {n}");
             let reply = compare::lookups(&mut tally, &mut random, &card, question, &about);
             seen.note(&card, question, &reply);
+            lookups_all(&mut whole, &mut random, &card, &[question]);
         }
     }
     tally.report("lookup_on_cards_of_many_shapes");
+    whole.report("lookup_on_cards_of_many_shapes, all of a term");
     println!("lookup_on_cards_of_many_shapes: {seen:?}");
     tally.expect(&[0, 10], 10_000);
     tally.expect(&[9], 1_000);
+    whole.expect(&[0, 10], 10_000);
+    whole.expect(&[9], 100);
     seen.expect(100);
 }
 
@@ -349,6 +416,7 @@ fn lookup_on_cards_of_many_shapes() {
 fn lookup_on_damaged_cards() {
     let mut random = Random::new(44);
     let mut tally = Tally::new();
+    let mut whole = Tally::new();
     for round in 0..260 {
         let b = random.pick(&[8, 8, 9, 10]);
         let n = random.within(2, 5);
@@ -378,6 +446,7 @@ fn lookup_on_damaged_cards() {
                 let answer = random.words(room);
                 let about = || format!("word {word} was {kept}, now {value}");
                 compare::lookup(&mut tally, &card, question, &answer, &about);
+                lookup_all(&mut whole, &mut random, &card, question.0, room);
             }
             card[word] = kept;
         }
@@ -389,12 +458,16 @@ fn lookup_on_damaged_cards() {
                 let part = &longer[..length];
                 let answer = random.words(length % 9);
                 compare::lookup(&mut tally, part, question, &answer, &String::new);
+                lookup_all(&mut whole, &mut random, part, question.0, length % 9);
             }
         }
     }
     tally.report("lookup_on_damaged_cards");
+    whole.report("lookup_on_damaged_cards, all of a term");
     tally.expect(&[0, 4, 9], 5_000);
     tally.expect(&[1, 2, 3, 10], 500);
+    whole.expect(&[0, 4], 5_000);
+    whole.expect(&[1, 2, 3, 9, 10], 500);
 }
 
 /// Large cards with old and new segments anywhere in the circle.
@@ -402,6 +475,7 @@ fn lookup_on_damaged_cards() {
 fn lookup_on_large_cards() {
     let mut random = Random::new(45);
     let mut tally = Tally::new();
+    let mut whole = Tally::new();
     let mut seen = Seen::default();
     for (b, n, questions) in [
         (8, 1024, 60),
@@ -459,11 +533,12 @@ fn lookup_on_large_cards() {
             if one_term {
                 // All of the term's positions, over every block.
                 let all = known.len() + 1;
-                let mut whole: Vec<Question> = vec![(9, 1, TOP)];
+                let mut questions: Vec<Question> = vec![(9, 1, TOP)];
                 if b < 1024 || n < 1024 {
-                    whole.extend([(9, 3, TOP), (9, 4, TOP - 1), (8, 1, TOP), (10, 1, TOP)]);
+                    questions.extend([(9, 3, TOP), (9, 4, TOP - 1), (8, 1, TOP), (10, 1, TOP)]);
                 }
-                for question in whole {
+                lookups_all(&mut whole, &mut random, &card, &questions);
+                for question in questions {
                     let words = random.words(all);
                     let reply = compare::lookup(&mut tally, &card, question, &words, &String::new);
                     assert_eq!(reply.number, 0);
@@ -472,8 +547,10 @@ fn lookup_on_large_cards() {
         }
     }
     tally.report("lookup_on_large_cards");
+    whole.report("lookup_on_large_cards, all of a term");
     println!("lookup_on_large_cards: {seen:?}");
     tally.expect(&[0, 10], 500);
+    whole.expect(&[0, 10], 10);
     assert!(seen.from_both_segments > 20 && seen.several_blocks > 100);
 }
 

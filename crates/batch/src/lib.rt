@@ -62,9 +62,8 @@ fn ill_formed(u: Record) -> bool
     let from = u.from;
     let to = u.to;
     !((kind == ADDS) | (kind == REMOVES))
-        | (term == 0)
-        | (from == 0)
-        | (to == 0)
+        | !pair::is_pair(term, from)
+        | !pair::is_pair(term, to)
         | (to < from)
         | ((kind == ADDS) & (from < to))
 }

@@ -6,7 +6,7 @@ use mathlib.Core.Path.{_≡_, refl, sym, ap, _∙_}
 use mathlib.Core.Bool.{Bool, true, false, _&&_, not}
 use mathlib.Core.List.{List, [], _∷_, _++_, map, append-nil}
 use lib.ListN.{length, take, drop, getD, length-drop, length-take}
-use lib.Seq.{getD-drop, drop-drop, take-take}
+use lib.Seq.{getD-take, getD-drop, drop-drop, take-take}
 use lib.Dec.{ltb}
 use Rattle.pair.specs.Rank.{rank, position, Words}
 use Rattle.pair.specs.Rising.{keep, atMost, risingFrom}
@@ -120,6 +120,7 @@ pub empty-part : {ws : List ℕ} {t a z : ℕ} → (formed ws ≡ true → keep 
 empty-part {ws} {t} {a} {z} none =
     record {
       inside = zero-le;
+      inEntry = λ l. absurd (let z : 0 < 0 = l in omega arith);
       positions = λ f. rw (none f);
       before = λ f l. absurd (let z : 0 < 0 = l in omega arith);
     }
@@ -184,6 +185,17 @@ module _ {ws : List ℕ} {t a z i : ℕ} (w : Words ws) (s : Seek ws t a z i) (o
   seek-found {r} q l p =
       record {
         inside = omega (arith, p .inside, whole, entry-room ws i o);
+        inEntry = λ g.
+            record {
+              entry = i;
+              term = l;
+              from = omega arith;
+              to = omega (arith, p .inside, whole);
+              first = rw (← at (r .start) (omega (arith, p .inside, whole))) (p .first g);
+              last =
+                  let e : i + 2 + r .start + r .len - 1 ≡ i + 2 + (r .start + r .len - 1) = omega arith in
+                  rw (e, ← at (r .start + r .len - 1) (omega (arith, p .inside, whole))) (p .last g);
+            };
         positions = positions;
         before = before;
       }
@@ -199,6 +211,10 @@ module _ {ws : List ℕ} {t a z i : ℕ} (w : Words ws) (s : Seek ws t a z i) (o
 
       P : List ℕ
       P = positionsAt ws i
+
+      -- a position of the entry is a word of the block
+      at : (j : ℕ) → j < n → getD (positionsAt ws i) j 0 ≡ getD ws (i + 2 + j) 0
+      at j h = getD-take (i + 2 + n - (i + 2)) (drop (i + 2) ws) j 0 (omega arith) ∙ getD-drop (i + 2) ws j 0
 
       rest : List ℕ
       rest = pairsFrom (drop (i + 2 + n) ws) t 0

@@ -28,6 +28,8 @@ pub entry-counts : {ps : List ℕ} {a z s e : ℕ} → UpTo ps a s → UpTo ps z
 entry-counts {ps} {a} {z} {s} {e} u v =
     record {
       inside = omega (arith, u .inside, v .inside);
+      first = λ l. u .beyond (omega (arith, v .inside));
+      last = λ l. let n : s + (e - s) - 1 ≡ e - 1 = omega arith in rw n (v .below (omega arith));
       positions = λ r. rw (u .count r, v .count r) (sym (stretch ps 0 a z r));
       before = u .count;
     }

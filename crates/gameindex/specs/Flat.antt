@@ -4,6 +4,8 @@ use mathlib.Core.Path.{_≡_}
 use mathlib.Core.Bool.{Bool, cond}
 use mathlib.Core.List.{List}
 use Rattle.update.specs.Step.{Step}
+use Rattle.lookup.specs.declared.LookupAnswer.{LookupAnswer}
+use Rattle.lookup.specs.Answer.{numberOf, countOf, blocksReadOf}
 use Rattle.lookup.specs.Found.{Lookup}
 
 abbrev pub flag : Bool → ℕ
@@ -16,6 +18,12 @@ pub record Stepped (number write freed finished : ℕ) (card : List ℕ) (s : St
   pub ofFreed : freed ≡ s .freed
   pub ofFinished : finished ≡ flag (s .finished)
   pub ofCard : card ≡ s .card
+
+-- the reply and the numbers filled in are those of a lookup's answer
+pub record Filled (number found blocks : ℕ) (answer : LookupAnswer) : Type 0 where
+  pub ofNumber : number ≡ numberOf answer
+  pub ofFound : found ≡ countOf answer
+  pub ofBlocks : blocks ≡ blocksReadOf answer
 
 -- the reply, the numbers filled in and the answer words left are those of a lookup
 pub record LookedUp (number found blocks : ℕ) (answer : List ℕ) (l : Lookup) : Type 0 where

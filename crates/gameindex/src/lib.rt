@@ -3,10 +3,11 @@ ghost use mathlib.Core.Path.{_≡_};
 ghost use Rattle.card.specs.Layout.{formatNumber, formatted};
 ghost use Rattle.card.specs.Sound.{judged};
 ghost use Rattle.update.specs.Step.{step};
-ghost use Rattle.gameindex.specs.Flat.{flag, Stepped, LookedUp};
-ghost use Rattle.lookup.specs.Found.{lookup, read};
+ghost use Rattle.pair.specs.Bounds.{lowest, highest};
+ghost use Rattle.gameindex.specs.Flat.{flag, Stepped, Filled, LookedUp};
+ghost use Rattle.lookup.specs.Found.{lookup};
 ghost use Rattle.lookup.specs.Answer.{Viewed};
-ghost use Rattle.lookup.specs.Reading.{ReadOff};
+ghost use Rattle.reader.specs.Reader.{read, ReadOff};
 use lookup::LookupAnswer;
 
 // Formats a card; the reply is the number, 0 where it is done.
@@ -53,21 +54,11 @@ pub extern "C" fn gi_step(
     update::number_of(answer)
 }
 
-// Looks a term up; the reply is the number, 0 where it is done. The count of positions and of blocks read go behind the last two references.
-#[no_mangle]
-pub extern "C" fn gi_lookup(
-    card: &[u32],
-    term: u32,
-    from: u32,
-    to: u32,
-    answer: &mut [u32],
-    found: &mut u32,
-    blocks: &mut u32,
-) -> u32
-    ensures { λ r. ⌜ LookedUp r (now (found .exit)) (now (blocks .exit)) (now (answer .exit)) (lookup (now (card .entry)) term from to (now (answer .entry))) ⌝ }
+// The number of a lookup's answer; the count of positions and of blocks read go behind the references.
+fn fill(answer: LookupAnswer, found: &mut u32, blocks: &mut u32) -> u32
+    ensures { λ r. ⌜ Filled r (now (found .exit)) (now (blocks .exit)) answer ⌝ }
 {
-    let reply = lookup::lookup(card, term, from, to, answer);
-    match reply {
+    match answer {
         LookupAnswer::Refused(number) => {
             *found = 0;
             *blocks = 0;
@@ -82,6 +73,38 @@ pub extern "C" fn gi_lookup(
             0
         }
     }
+}
+
+// Looks a term up; the reply is the number, 0 where it is done. The count of positions and of blocks read go behind the last two references.
+#[no_mangle]
+pub extern "C" fn gi_lookup(
+    card: &[u32],
+    term: u32,
+    from: u32,
+    to: u32,
+    answer: &mut [u32],
+    found: &mut u32,
+    blocks: &mut u32,
+) -> u32
+    ensures { λ r. ⌜ LookedUp r (now (found .exit)) (now (blocks .exit)) (now (answer .exit)) (lookup (now (card .entry)) term from to (now (answer .entry))) ⌝ }
+{
+    let reply = lookup::lookup(card, term, from, to, answer);
+    fill(reply, found, blocks)
+}
+
+// Looks up all positions of a term, from the lowest pair's to the highest pair's; the reply and the counts are those of the lookup.
+#[no_mangle]
+pub extern "C" fn gi_lookup_all(
+    card: &[u32],
+    term: u32,
+    answer: &mut [u32],
+    found: &mut u32,
+    blocks: &mut u32,
+) -> u32
+    ensures { λ r. ⌜ LookedUp r (now (found .exit)) (now (blocks .exit)) (now (answer .exit)) (lookup (now (card .entry)) term (lowest .position) (highest .position) (now (answer .entry))) ⌝ }
+{
+    let whole = lookup::lookup_all(card, term, answer);
+    fill(whole, found, blocks)
 }
 
 // Finds the positions of the first block that has any; the reply is the number, 0 where it is done. Where in the card they start and how many they are go behind the last two references.
@@ -114,7 +137,7 @@ pub extern "C" fn gi_read(
 ) -> u32
     ensures { λ r. ⌜ ReadOff r (now (found .exit)) (now (answer .exit)) (read (now (card .entry)) term from to (now (answer .entry))) ⌝ }
 {
-    let reading = lookup::reading::read(card, term, from, to, answer);
+    let reading = reader::read(card, term, from, to, answer);
     *found = reading.count;
     reading.number
 }

@@ -6,7 +6,7 @@ use native.Mathlib.Omega.{arith}
 use Rattle.pair.specs.Rank.{Words}
 use Rattle.card.specs.Sound.{judged}
 use Rattle.card.proofs.Formatted.{formattable}
-use Rattle.history.specs.History.{History, Event, after, told, Agrees, Holds, AllOfWords, Demand3}
+use Rattle.history.specs.History.{History, Event, after, tells, told, Agrees, Holds, AllOfWords, Demand3}
 use Rattle.history.proofs.Answers.{answered}
 use Rattle.history.proofs.Events.{keeping-after}
 use Rattle.history.proofs.Keeping.{Keeping, itself, keeping-itself, keeping-formatted}
@@ -19,7 +19,7 @@ agrees c h k = record { sound = k .sound; index = k .index; bound = (k .markTerm
 pub holds : (c : List ℕ) (h : History) (es : List Event) → Keeping c h → AllOfWords es → Holds c h es
 unfolding Holds AllOfWords
 holds c h [] k w = agrees c h k
-holds c h (e ∷ es) k w = (answered c e h k (w .0), holds (after c e) (told c e h) es (keeping-after c e h k (w .0)) (w .1))
+holds c h (e ∷ es) k w = (answered c e h k (w .0), holds (after c e) (told (tells c e) h) es (keeping-after c e h k (w .0)) (w .1))
 
 pub demand3 : Demand3
 unfolding Demand3

@@ -18,7 +18,7 @@ use Rattle.update.proofs.Grown.{Remaining, Ready}
 use Rattle.update.proofs.Next.{remaining}
 use Rattle.update.proofs.Steps.{Accepted, accepted, step-taken, step-refused}
 use Rattle.update.proofs.Writes.{three, alike-duePlace, alike-dueEntry, written-first-alike, written-second-alike, written-first-words, written-second-words}
-use Rattle.history.specs.History.{History, started, landed, Event, stepped, cut, looked, restarted, formats, just, torn, after, told, OfWords}
+use Rattle.history.specs.History.{History, started, landed, Event, stepped, cut, looked, restarted, formats, just, torn, after, Report, nothing, tells, told, OfWords}
 use Rattle.history.proofs.Keeping.{Keeping, keeping-alike, keeping-formatted, keeping-landed}
 
 pub length-just : (n : ℕ) (ws : List ℕ) → length (just n ws) ≤ n
@@ -105,11 +105,17 @@ keeping-formats c b n h k hb hn = go (eqb (formatNumber c b n) 0) refl
     go true e = rw e (keeping-formatted c b n (eqb-true (formatNumber c b n) 0 e) (k .words) hb hn)
     go false e = rw (e, formatted-refused c b n e) k
 
+-- A history that is told something where a test holds, and else nothing.
+pub told-where : (t : Bool) (r : Report) (h : History) → told (cond t r nothing) h ≡ cond t (told r h) h
+unfolding told
+told-where true r h = refl
+told-where false r h = refl
+
 -- Any event.
-pub keeping-after : (c : List ℕ) (e : Event) (h : History) → Keeping c h → OfWords e → Keeping (after c e) (told c e h)
-unfolding after told OfWords
-keeping-after c (stepped b) h k w = keeping-stepped c b h k w
-keeping-after c (cut b ws l) h k w = keeping-torn c b ws l h k (w .0) (w .1)
+pub keeping-after : (c : List ℕ) (e : Event) (h : History) → Keeping c h → OfWords e → Keeping (after c e) (told (tells c e) h)
+unfolding after tells told OfWords
+keeping-after c (stepped b) h k w = rw told-where (keeping-stepped c b h k w)
+keeping-after c (cut b ws l) h k w = rw told-where (keeping-torn c b ws l h k (w .0) (w .1))
 keeping-after c (looked t a z answer) h k w = k
 keeping-after c restarted h k w = k
-keeping-after c (formats b n) h k w = keeping-formats c b n h k (w .0) (w .1)
+keeping-after c (formats b n) h k w = rw told-where (keeping-formats c b n h k (w .0) (w .1))

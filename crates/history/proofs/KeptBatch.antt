@@ -19,10 +19,10 @@ use Rattle.card.proofs.Facts.{Facts, facts}
 use Rattle.card.proofs.Live.{live-rising}
 use Rattle.update.specs.Step.{stepNumber, taken, step}
 use Rattle.update.proofs.Steps.{accepted, step-taken, step-refused}
-use Rattle.history.specs.History.{History, toWrite, landed, Event, stepped, cut, looked, restarted, formats, after, told, AllOfWords}
+use Rattle.history.specs.History.{History, toWrite, landed, Event, stepped, cut, looked, restarted, formats, after, tells, told, AllOfWords}
 use Rattle.history.specs.Claims.{Lends, Keeps, ran, finishing, finished, KeptBatch}
 use Rattle.history.proofs.Answers.{step-finishes}
-use Rattle.history.proofs.Events.{keeping-after}
+use Rattle.history.proofs.Events.{told-where, keeping-after}
 use Rattle.history.proofs.Keeping.{Keeping, itself, keeping-itself}
 use Rattle.history.proofs.Kept.{Kept, kept-start, kept-on, kept-again, kept-applied, kept-still}
 
@@ -46,14 +46,14 @@ finished-ordered c b f = go (eqb (stepNumber c b) 0) refl
 -- What an event tells the history where no batch but b is lent: nothing, or that a configuration write with b has landed.
 pub moved :
     (c b : List ℕ) (e : Event) (h : History) → Keeping c h → Lends c b e → (P : History → Bool → Type 0) →
-    P h false → P (landed b h) (not (goesOn (h .size) (toWrite b h))) → P (told c e h) (finishing c e)
-unfolding told finishing Lends
-moved c b (stepped x) h k l P still move = rw l (go (eqb (step c b .write) 3) refl)
+    P h false → P (landed b h) (not (goesOn (h .size) (toWrite b h))) → P (told (tells c e) h) (finishing c e)
+unfolding tells told finishing Lends
+moved c b (stepped x) h k l P still move = rw (l, told-where) (go (eqb (step c b .write) 3) refl)
   where
     go : (t : Bool) → eqb (step c b .write) 3 ≡ t → P (cond (eqb (step c b .write) 3) (landed b h) h) (step c b .finished)
     go true w = rw (w, step-finishes c b h k (eqb-true (step c b .write) 3 w)) move
     go false w = rw (w, step-unfinished c b w) still
-moved c b (cut x ws d) h k l P still move = rw l (go (eqb (step c b .write) 3) refl d)
+moved c b (cut x ws d) h k l P still move = rw (l, told-where) (go (eqb (step c b .write) 3) refl d)
   where
     go : (t : Bool) → eqb (step c b .write) 3 ≡ t → (d : Bool) → P (cond (eqb (step c b .write) 3 && d) (landed b h) h) (step c b .finished && d)
     go true w true = rw (w, step-finishes c b h k (eqb-true (step c b .write) 3 w), and-true (not (goesOn (h .size) (toWrite b h)))) move
@@ -89,7 +89,7 @@ module _ (b : List ℕ) (o : batchNumber b ≡ 0) where
   unfolding Keeps AllOfWords ran
   stays [] c s h k p r q l w = k .index ∙ kept-applied b s h r q p
   stays (e ∷ es) c s h k p r q l w =
-      stays es (after c e) s (told c e h) (keeping-after c e h k (w .0))
+      stays es (after c e) s (told (tells c e) h) (keeping-after c e h k (w .0))
       (moved c b e h k (l .0) (λ g fin. Kept b s g) p (kept-still b s h o r q p)) r q (l .1) (w .1)
 
   -- Up to the first finishing write, and from it on.
@@ -100,7 +100,7 @@ module _ (b : List ℕ) (o : batchNumber b ≡ 0) where
   turns [] c s h k p r l w f = absurd (false≢true f)
   turns (e ∷ es) c s h k p r l w f =
       go (moved c b e h k (l .0) Turned (inr (refl, p)) (lands (goesOn (h .size) (toWrite b h)) refl))
-      (λ p′. turns es (after c e) s (told c e h) (keeping-after c e h k (w .0)) p′ r (l .1) (w .1))
+      (λ p′. turns es (after c e) s (told (tells c e) h) (keeping-after c e h k (w .0)) p′ r (l .1) (w .1))
     where
       Turned : History → Bool → Type 0
       Turned g fin = ((fin ≡ true) × Kept b (applied (updates b) s) g) ⊎ ((fin ≡ false) × Kept b s g)
@@ -109,10 +109,10 @@ module _ (b : List ℕ) (o : batchNumber b ≡ 0) where
       lands true g = rw g (inr (refl, kept-on b s o r h p g))
       lands false g = rw g (inl (refl, kept-again b s h o r p g))
 
-      go : Turned (told c e h) (finishing c e) → (Kept b s (told c e h) → finished (after c e) es ≡ true → live (ran (after c e) es) ≡ applied (updates b) s)
+      go : Turned (told (tells c e) h) (finishing c e) → (Kept b s (told (tells c e) h) → finished (after c e) es ≡ true → live (ran (after c e) es) ≡ applied (updates b) s)
           → live (ran (after c e) es) ≡ applied (updates b) s
       go (inl (fin, p′)) again =
-          stays es (after c e) (applied (updates b) s) (told c e h) (keeping-after c e h k (w .0)) p′ (rising-batch b s o r)
+          stays es (after c e) (applied (updates b) s) (told (tells c e) h) (keeping-after c e h k (w .0)) p′ (rising-batch b s o r)
           (applied-twice (updates b) s (rises-from s 0 r)) (l .1) (w .1)
       go (inr (fin, p′)) again =
           let f′ : (finishing c e || finished (after c e) es) ≡ true = f in

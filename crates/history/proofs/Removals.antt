@@ -1,7 +1,7 @@
 -- With a removals-only batch, kept throughout, number 8 never occurs if two places were free at its first step.
 use Prim.Native.Nat.{ℕ}
 use native.Mathlib.Omega.{arith}
-use mathlib.Core.Path.{_≡_, refl, sym}
+use mathlib.Core.Path.{_≡_}
 use mathlib.Core.Bool.{Bool, true, false, cond}
 use mathlib.Core.List.{List, [], _∷_}
 use mathlib.Core.Logic.{inl}
@@ -9,8 +9,7 @@ use lib.Seq.{sets}
 use lib.Dec.{eqb}
 use borrow.Author.Tests.{ne-eqb}
 use Rattle.pair.specs.Rank.{Words}
-use Rattle.pair.proofs.Order.{term-rank, position-rank}
-use Rattle.card.specs.Layout.{word, blockSize, placeCount, oldLength, entryWidth, entryAt, placeAt, boundary, live, formatNumber}
+use Rattle.card.specs.Layout.{blockSize, placeCount, oldLength, entryWidth, entryAt, placeAt, formatNumber}
 use Rattle.card.specs.Sound.{judged}
 use Rattle.card.proofs.Circle.{length-around}
 use Rattle.card.proofs.Facts.{Facts, facts}
@@ -21,26 +20,10 @@ use Rattle.update.proofs.Crowded.{Removals}
 use Rattle.update.proofs.Roomy.{Roomy, roomy-alike, roomy-configuration, roomy-number, roomy-written}
 use Rattle.update.proofs.Steps.{step-taken}
 use Rattle.update.proofs.Writes.{three, alike-duePlace, alike-dueEntry}
-use Rattle.history.specs.History.{History, Event, stepped, cut, looked, restarted, formats, just, torn, after, told, AllOfWords}
+use Rattle.history.specs.History.{History, Event, stepped, cut, looked, restarted, formats, just, torn, after, tells, told, AllOfWords}
 use Rattle.history.specs.Claims.{Lends, Keeps, ran, freePlaces, RemovalsNeverFull}
-use Rattle.history.proofs.Keeping.{Keeping}
+use Rattle.history.proofs.Keeping.{Keeping, itself, keeping-itself}
 use Rattle.history.proofs.Events.{length-just, keeping-after}
-
--- the history that tells just what stands on a card
-toldBy : List ℕ → History
-toldBy c = record { size = blockSize c; pairs = live c; mark = boundary c }
-
-keeping-toldBy : (c : List ℕ) → judged c ≡ 0 → Words c → Keeping c (toldBy c)
-unfolding toldBy Words
-keeping-toldBy c j w =
-    record {
-      sound = j;
-      words = w;
-      index = refl;
-      markTerm = sym (term-rank (word c 6) (word c 7) (w 7));
-      markPosition = sym (position-rank (word c 6) (word c 7) (w 7));
-      size = refl;
-    }
 
 module _ (c b : List ℕ) (f : Facts c) (j : judged c ≡ 0) (w : Words c) (n : batchNumber b ≡ 0) (o : Removals b) (h : Roomy b c) where
   taking : step c b ≡ taken c (remains c b) (nextWrite c (remains c b))
@@ -85,9 +68,9 @@ never : (c b : List ℕ) (k : History) (es : List Event) → Keeping c k → All
 unfolding ran AllOfWords Keeps
 never c b k [] s w n o h l = roomy-number b c (s .sound) (s .words) n o h
 never c b k (e ∷ es) s w n o h l =
-    never (after c e) b (told c e k) es (keeping-after c e k s (w .0)) (w .1) n o (roomy-after c b e (s .sound) (s .words) n o (l .0) h) (l .1)
+    never (after c e) b (told (tells c e) k) es (keeping-after c e k s (w .0)) (w .1) n o (roomy-after c b e (s .sound) (s .words) n o (l .0) h) (l .1)
 
 pub removalsNeverFull : RemovalsNeverFull
 unfolding RemovalsNeverFull freePlaces
 removalsNeverFull c b es wc wb we j n o two l =
-    never c b (toldBy c) es (keeping-toldBy c j wc) we n o (inl (rw (length-around (placeCount c) _ (oldLength c)) (omega arith))) l
+    never c b (itself c) es (keeping-itself c wc j) we n o (inl (rw (length-around (placeCount c) _ (oldLength c)) (omega arith))) l

@@ -13,7 +13,8 @@ use Rattle.card.specs.Sound.{judged}
 use Rattle.batch.specs.Batch.{Update, updates, anyUpdate, applied, batchNumber}
 use Rattle.update.specs.Step.{remains, stepNumber, step}
 use Rattle.update.specs.Pass.{stepLimit, finishesWithin, refusedWithin}
-use Rattle.lookup.specs.Found.{questionNumber, blocksRead, holders, lookup, posting, ended, yielded, read}
+use Rattle.lookup.specs.Found.{questionNumber, blocksRead, holders, lookup}
+use Rattle.reader.specs.Reader.{posting, ended, yielded, read}
 use Rattle.history.specs.History.{Event, stepped, cut, looked, restarted, formats, after, AllOfWords}
 
 -- a pass left uncut and unrefused, with its batch kept, finishes within the step limit

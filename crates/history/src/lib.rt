@@ -1,1 +1,1 @@
-// The definitions of this crate; its code follows.
+// The history of a card and the claims about passes, defined and proved; no code.

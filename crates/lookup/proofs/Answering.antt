@@ -2,23 +2,34 @@
 use Prim.Native.Nat.{ℕ, _+_, _*_, _-_, _≤_, _<_, zero-le}
 use native.Mathlib.Omega.{arith}
 use mathlib.Core.Path.{_≡_, refl, sym, ap, _∙_}
-use mathlib.Core.Bool.{true, false, _||_}
+use mathlib.Core.Bool.{Bool, true, false, _||_, not}
 use mathlib.Core.List.{List}
-use borrow.Author.Tests.{eq-eqb, ne-eqb, lt-ltb, le-ltb}
+use borrow.Author.Tests.{eq-eqb, ne-eqb, eqb-true, lt-ltb, le-ltb}
 use lib.ListN.{length, take, drop}
 use lib.Seq.{sets}
 use lib.Dec.{ltb, eqb}
+use Rattle.pair.specs.Bounds.{isPair}
 use Rattle.pair.specs.Rising.{firstOf}
+use Rattle.pair.proofs.Bounds.{isPair-word}
 use Rattle.card.specs.Sound.{judged}
 use Rattle.card.proofs.Parts.{length-part}
 use Rattle.lookup.specs.declared.walk.Walk.{Walk}
 use Rattle.lookup.specs.declared.walk.WalkRun.{WalkRun}
+use Rattle.lookup.specs.declared.LookupAnswer.{LookupAnswer}
 use Rattle.lookup.specs.declared.LookupAnswer.the-variants.{Refused, Found}
-use Rattle.lookup.specs.Answer.{Answered, Viewed}
-use Rattle.lookup.specs.Found.{found, questionNumber, lookupNumber, run, runStart}
+use Rattle.lookup.specs.Answer.{numberOf, countOf, blocksReadOf, answerOf, Viewed}
+use Rattle.lookup.specs.Found.{found, questionNumber, lookupNumber, Lookup, lookup, run, runStart}
 use Rattle.lookup.specs.Segment.{Opened}
 use Rattle.lookup.specs.Walk.{ahead, blocksOf, Next}
 use Rattle.lookup.proofs.Answers.{lookup-found, lookup-refused}
+
+-- the test of the question: of 32-bit words, those that are no pair have a 0 among them
+pub question-test : (t a z : ℕ) {b : Bool} → t < 4294967296 → a < 4294967296 → b ≡ isPair t a → ((eqb t 0 || eqb a 0) || ltb z a) ≡ (not b || ltb z a)
+question-test t a z h k e = rw (e, isPair-word t a h k) (ap (λ x. x || ltb z a) (twice (eqb t 0 || eqb a 0)))
+  where
+    twice : (x : Bool) → x ≡ not (not x)
+    twice true = refl
+    twice false = refl
 
 -- the question's number
 pub question-refused : (c : List ℕ) (t a z n : ℕ) → n ≡ judged c → (n ≡ 0 → ⊥) → n ≡ questionNumber c t a z
@@ -46,13 +57,17 @@ number-none : (c : List ℕ) (t a z : ℕ) (ans : List ℕ) → questionNumber c
 unfolding lookupNumber firstOf
 number-none c t a z ans e l = rw (eq-eqb (questionNumber c t a z) 0 e, le-ltb (length ans) (length (found c t a z)) l)
 
-module _ {c : List ℕ} {t a z : ℕ} {ans : List ℕ} where
+-- the answer and the answer words at the end are those of the lookup
+abbrev Answered : List ℕ → ℕ → ℕ → ℕ → List ℕ → LookupAnswer → List ℕ → Type 0
+Answered c t a z before r after = (r ≡ answerOf (lookup c t a z before)) × (after ≡ lookup c t a z before .answer)
+
+module _ (c : List ℕ) (t a z : ℕ) (ans : List ℕ) where
   -- a lookup refused for its question
   pub answered-refused : {n : ℕ} → n ≡ questionNumber c t a z → (n ≡ 0 → ⊥) → Answered c t a z ans (Refused n) ans
   answered-refused {n} e h =
       let k : lookupNumber c t a z ans ≡ n = number-question c t a z ans n e h in
       let l = lookup-refused c t a z ans (rw k (ne-eqb n 0 h)) in
-      record { number = rw (l, k); count = rw l; blocks = rw l; words = rw l }
+      (rw (l, k, ne-eqb n 0 h), rw l)
 
   -- for its answer words
   pub answered-short :
@@ -62,7 +77,7 @@ module _ {c : List ℕ} {t a z : ℕ} {ans : List ℕ} where
       let short : length ans < length (found c t a z) = rw (← o .found) (omega arith) in
       let k : lookupNumber c t a z ans ≡ 10 = number-short c t a z ans (sym e ∙ h) short in
       let l = lookup-refused c t a z ans (rw k refl) in
-      record { number = rw (l, k); count = rw l; blocks = rw l; words = rw l }
+      (rw (l, k), rw l)
 
   -- and one that is not refused
   pub answered-found :
@@ -72,7 +87,24 @@ module _ {c : List ℕ} {t a z : ℕ} {ans : List ℕ} where
       let room : length (found c t a z) ≤ length ans = rw (← o .found) (omega arith) in
       let k : lookupNumber c t a z ans ≡ 0 = number-none c t a z ans (sym e ∙ h) room in
       let l = lookup-found c t a z ans k in
-      record { number = rw l; count = rw (l, f, o .found); blocks = rw l (o .blocks); words = rw (l, s, o .found) }
+      (rw (l, f, o .found, o .blocks), rw (l, s, o .found))
+
+-- the numbers of a lookup's answer are those of the lookup
+pub record AnswerNumbers (r : LookupAnswer) (l : Lookup) : Type 0 where
+  pub number : numberOf r ≡ l .number
+  pub count : countOf r ≡ l .count
+  pub blocks : blocksReadOf r ≡ l .blocks
+
+pub answer-numbers : (c : List ℕ) (t a z : ℕ) (ans : List ℕ) → AnswerNumbers (answerOf (lookup c t a z ans)) (lookup c t a z ans)
+answer-numbers c t a z ans = go (eqb (lookupNumber c t a z ans) 0) refl
+  where
+    go : (s : Bool) → eqb (lookupNumber c t a z ans) 0 ≡ s → AnswerNumbers (answerOf (lookup c t a z ans)) (lookup c t a z ans)
+    go true e =
+        let l = lookup-found c t a z ans (eqb-true (lookupNumber c t a z ans) 0 e) in
+        record { number = rw l; count = rw l; blocks = rw l }
+    go false e =
+        let l = lookup-refused c t a z ans e in
+        record { number = rw (l, e); count = rw (l, e); blocks = rw (l, e) }
 
 -- the run view's part of the card, refused or not
 pub viewed-refused : {c : List ℕ} {t a z n : ℕ} → n ≡ questionNumber c t a z → (n ≡ 0 → ⊥) → Viewed c t a z n 0 0

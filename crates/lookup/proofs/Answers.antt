@@ -1,17 +1,17 @@
--- Lookups and readings answered and refused.
+-- Lookups answered and refused.
 use Prim.Native.Nat.{ℕ, _≤_}
 use mathlib.Core.Path.{_≡_, refl, sym, _∙_, ap}
 use mathlib.Core.Bool.{Bool, true, false, _||_}
 use mathlib.Core.List.{List}
 use native.Mathlib.Omega.{arith}
 use lib.ListN.{length}
-use lib.Seq.{sets, take-nil}
+use lib.Seq.{sets}
 use lib.Dec.{ltb, eqb}
 use borrow.Author.Tests.{ltb-false, eqb-true, eqb-false}
 use Rattle.pair.proofs.Tests.{or-left, or-right}
 use Rattle.pair.proofs.FirstOf.{passed, handed-on}
 use Rattle.card.specs.Sound.{judged}
-use Rattle.lookup.specs.Found.{found, questionNumber, lookupNumber, lookup, blocksRead, allYielded, read}
+use Rattle.lookup.specs.Found.{found, questionNumber, lookupNumber, lookup, blocksRead}
 
 -- a question that is not refused
 pub record Asked (c : List ℕ) (t a z : ℕ) : Type 0 where
@@ -51,13 +51,6 @@ pub lookup-refused :
     lookup c t a z answer ≡ record { number = lookupNumber c t a z answer; count = 0; blocks = 0; answer = answer }
 unfolding lookup
 lookup-refused c t a z answer e = rw e
-
--- Nor does a refused reading.
-pub read-refused :
-    (c : List ℕ) (t a z : ℕ) (answer : List ℕ) → eqb (questionNumber c t a z) 0 ≡ false →
-    read c t a z answer ≡ record { number = questionNumber c t a z; count = 0; answer = answer }
-unfolding read allYielded
-read-refused c t a z answer e = rw (e, take-nil (length answer))
 
 -- A lookup's number is that of its definition, refused or not.
 pub lookup-number : (c : List ℕ) (t a z : ℕ) (answer : List ℕ) → lookup c t a z answer .number ≡ lookupNumber c t a z answer

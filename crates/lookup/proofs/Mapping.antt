@@ -19,7 +19,7 @@ use Rattle.card.specs.Sound.{blocksSound}
 use Rattle.card.proofs.Circle.{length-around}
 use Rattle.lookup.specs.Found.{mappedTo}
 use Rattle.lookup.specs.Segment.{Segment, LiveAfter}
-use Rattle.lookup.proofs.Span.{first}
+use Rattle.lookup.proofs.Span.{first, mapped-leading}
 
 mapped-rising : (c is : List ℕ) (j : ℕ) → blocksSound c is ≡ true → risingFrom j (pairsAt c is) ≡ true → risingFrom j (map (firstPair c) is) ≡ true
 unfolding risingFrom
@@ -30,13 +30,17 @@ mapped-rising c (i ∷ is) j s r =
     (rising-weaker (map (firstPair c) is) (firstPair c i) (last j (pairs (place c i))) (f .high)
     (mapped-rising c is (last j (pairs (place c i))) (f .sound) (f .behind)))
 
--- the places with a map pair of at most k are so many of the map
-mapped-count : (c is : List ℕ) (j k : ℕ) → risingFrom j (map (firstPair c) is) ≡ true → mappedTo c k is ≡ length (atMost k (map (firstPair c) is))
-unfolding mappedTo atMost keep risingFrom
-mapped-count c [] j k r = refl
-mapped-count c (i ∷ is) j k r =
-    let behind : risingFrom (firstPair c i) (map (firstPair c) is) ≡ true = rising-tail (firstPair c i) (map (firstPair c) is) j r in
-    go (leb (firstPair c i) k) refl behind (mapped-count c is (firstPair c i) k behind)
+-- the places up to the last with a map pair of at most k are as many as have one
+mapped-count :
+    (c is : List ℕ) (j k : ℕ) → blocksSound c is ≡ true → risingFrom j (pairsAt c is) ≡ true →
+    mappedTo c k is ≡ length (atMost k (map (firstPair c) is))
+unfolding atMost keep
+mapped-count c [] j k s r = unfold mappedTo in refl
+mapped-count c (i ∷ is) j k s r =
+    let f = first c j i is s r in
+    let behind : risingFrom (firstPair c i) (map (firstPair c) is) ≡ true = rising-tail (firstPair c i) (map (firstPair c) is) j (mapped-rising c (i ∷ is) j s r) in
+    rw (mapped-leading c k j i is s r)
+    (go (leb (firstPair c i) k) refl behind (mapped-count c is (last j (pairs (place c i))) k (f .sound) (f .behind)))
   where
     go :
         (s : Bool) → leb (firstPair c i) k ≡ s → risingFrom (firstPair c i) (map (firstPair c) is) ≡ true →
@@ -93,7 +97,7 @@ pub search-end :
     low ≡ mappedTo c k (around (placeCount c) start len)
 search-end {c} {start} {len} {k} h l s =
     let rises = mapped-rising c (around (placeCount c) start len) 0 (s .sound) (s .rises) in
-    halved-end (h .half) l rises ∙ sym (mapped-count c (around (placeCount c) start len) 0 k rises)
+    halved-end (h .half) l rises ∙ sym (mapped-count c (around (placeCount c) start len) 0 k (s .sound) (s .rises))
 
 -- what is wanted of a segment whose pairs at or below (u, p) are not live
 beyond : (t a z u p : ℕ) → t < u → z < 4294967296 → LiveAfter t a z u p z

@@ -2,11 +2,11 @@
 use Prim.Native.Nat.{ℕ, suc, _+_, _-_, _≤_, _<_, zero-le}
 use native.Mathlib.Omega.{arith}
 use mathlib.Core.Path.{_≡_, refl, sym, _∙_}
-use mathlib.Core.Bool.{Bool, true, false, cond, _&&_}
+use mathlib.Core.Bool.{Bool, true, false, cond, _&&_, _||_}
 use mathlib.Core.List.{List, [], _∷_}
 use lib.ListN.{length, getD}
 use lib.Dec.{ltb, leb, eqb}
-use borrow.Author.Tests.{ltb-true, lt-ltb, leb-false, le-leb, eqb-true}
+use borrow.Author.Tests.{ltb-true, lt-ltb, leb-false, le-leb, lt-leb, eqb-true}
 use Rattle.pair.specs.Rank.{rank}
 use Rattle.pair.specs.Rising.{risingFrom, last, any}
 use Rattle.pair.proofs.Rising.{any-last, rising-head, rising-tail, rising-last, rising-first, rising-second}
@@ -55,15 +55,41 @@ first c j i is s r =
       holds = λ f h. any-first f ks some (rw entry at h);
     }
 
+-- no place whose pairs lie above k has a map pair of at most k
+pub mapped-none : (c : List ℕ) (k j : ℕ) (is : List ℕ) → blocksSound c is ≡ true → risingFrom j (pairsAt c is) ≡ true → k ≤ j → mappedTo c k is ≡ 0
+unfolding mappedTo
+mapped-none c k j [] s r h = refl
+mapped-none c k j (i ∷ is) s r h =
+    let f = first c j i is s r in
+    let m = last j (pairs (place c i)) in
+    let rest : mappedTo c k is ≡ 0 = mapped-none c k m is (f .sound) (f .behind) (omega (arith, rising-last (pairs (place c i)) j (f .rises))) in
+    rw (rest, lt-leb (firstPair c i) k (omega (arith, f .low)))
+
+-- the map pairs of sound places rise, so that the places up to the last whose map pair is at most k are the leading ones whose map pair is
+pub mapped-leading : (c : List ℕ) (k j i : ℕ) (is : List ℕ) → blocksSound c (i ∷ is) ≡ true → risingFrom j (pairsAt c (i ∷ is)) ≡ true →
+    mappedTo c k (i ∷ is) ≡ cond (leb (firstPair c i) k) (suc (mappedTo c k is)) 0
+unfolding mappedTo
+mapped-leading c k j i is s r = go (leb (firstPair c i) k) refl
+  where
+    go : (b : Bool) → leb (firstPair c i) k ≡ b →
+        cond (b || ltb 0 (mappedTo c k is)) (suc (mappedTo c k is)) 0 ≡ cond b (suc (mappedTo c k is)) 0
+    go true e = refl
+    go false e =
+        let f = first c j i is s r in
+        let less : k < firstPair c i = leb-false (firstPair c i) k e in
+        let rest : mappedTo c k is ≡ 0 = mapped-none c k (last j (pairs (place c i))) is (f .sound) (f .behind) (omega (arith, f .high)) in
+        rw rest
+
 -- places whose pairs all lie above k and a: each with a map pair of at most z holds a live posting in range
 mappedTo-above : (c : List ℕ) (k a z j : ℕ) (is : List ℕ) → blocksSound c is ≡ true → risingFrom j (pairsAt c is) ≡ true →
     k ≤ j → a ≤ j → mappedTo c z is ≤ holders c k a z is
-unfolding mappedTo holders
-mappedTo-above c k a z j [] s r hk ha = omega arith
+unfolding holders
+mappedTo-above c k a z j [] s r hk ha = unfold mappedTo in omega arith
 mappedTo-above c k a z j (i ∷ is) s r hk ha =
     let f = first c j i is s r in
     let l : j ≤ last j (pairs (place c i)) = rising-last (pairs (place c i)) j (f .rises) in
-    go f (mappedTo-above c k a z (last j (pairs (place c i))) is (f .sound) (f .behind) (omega arith) (omega arith)) (leb (firstPair c i) z) refl
+    rw (mapped-leading c z j i is s r)
+    (go f (mappedTo-above c k a z (last j (pairs (place c i))) is (f .sound) (f .behind) (omega arith) (omega arith)) (leb (firstPair c i) z) refl)
   where
     go : First c j i is → mappedTo c z is ≤ holders c k a z is → (s : Bool) → leb (firstPair c i) z ≡ s →
         cond s (suc (mappedTo c z is)) 0
@@ -81,14 +107,15 @@ counted false n = omega arith
 -- places whose pairs all lie above k: past those with a map pair of at most a, each with one of at most z holds a live posting in range
 mappedTo-rest : (c : List ℕ) (k a z j : ℕ) (is : List ℕ) → blocksSound c is ≡ true → risingFrom j (pairsAt c is) ≡ true →
     k ≤ j → mappedTo c z is ≤ holders c k a z is + mappedTo c a is
-unfolding mappedTo holders
-mappedTo-rest c k a z j [] s r hk = omega arith
+unfolding holders
+mappedTo-rest c k a z j [] s r hk = unfold mappedTo in omega arith
 mappedTo-rest c k a z j (i ∷ is) s r hk =
     let f = first c j i is s r in
     let l : j ≤ last j (pairs (place c i)) = rising-last (pairs (place c i)) j (f .rises) in
     let m : ℕ = last j (pairs (place c i)) in
-    go f (mappedTo-rest c k a z m is (f .sound) (f .behind) (omega arith))
-    (mappedTo-above c k a z m is (f .sound) (f .behind) (omega arith)) (leb (firstPair c i) z) (leb (firstPair c i) a) refl refl
+    rw (mapped-leading c z j i is s r, mapped-leading c a j i is s r)
+    (go f (mappedTo-rest c k a z m is (f .sound) (f .behind) (omega arith))
+    (mappedTo-above c k a z m is (f .sound) (f .behind) (omega arith)) (leb (firstPair c i) z) (leb (firstPair c i) a) refl refl)
   where
     held : Bool
     held = any (λ x. ltb k x && leb a x && leb x z) (pairs (place c i))
@@ -109,15 +136,16 @@ mappedTo-rest c k a z j (i ∷ is) s r hk =
 -- in a segment of sound places, the first of which reaches above k, the span is at most one more than the blocks that hold a live posting in range
 pub span-bound : (c : List ℕ) (k t a z : ℕ) (is : List ℕ) → blocksSound c is ≡ true → risingFrom 0 (pairsAt c is) ≡ true →
     firstReaches c k is ≡ true → span c t a z is ≤ holders c k (rank t a) (rank t z) is + 1
-unfolding span mappedTo holders firstReaches
-span-bound c k t a z [] s r h = omega arith
+unfolding span holders firstReaches
+span-bound c k t a z [] s r h = unfold mappedTo in omega arith
 span-bound c k t a z (i ∷ is) s r h =
     let f = first c 0 i is s r in
     let m : ℕ = last 0 (pairs (place c i)) in
     let reach : k < m = ltb-true k m (sym (any-last (pairs (place c i)) 0 k (f .rises) zero-le) ∙ h) in
-    go f (mappedTo-rest c k (rank t a) (rank t z) m is (f .sound) (f .behind) (omega arith))
+    rw (mapped-leading c (rank t z) 0 i is s r, mapped-leading c (rank t a) 0 i is s r)
+    (go f (mappedTo-rest c k (rank t a) (rank t z) m is (f .sound) (f .behind) (omega arith))
     (mappedTo-above c k (rank t a) (rank t z) m is (f .sound) (f .behind) (omega arith))
-    (leb (firstPair c i) (rank t z)) (leb (firstPair c i) (rank t a)) refl refl
+    (leb (firstPair c i) (rank t z)) (leb (firstPair c i) (rank t a)) refl refl)
   where
     held : Bool
     held = any (λ x. ltb k x && leb (rank t a) x && leb x (rank t z)) (pairs (place c i))

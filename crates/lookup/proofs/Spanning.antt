@@ -3,12 +3,13 @@ use Prim.Native.Nat.{ℕ, zero, suc, _+_, _-_, _%_, _≤_, _<_, zero-le}
 use native.Mathlib.Nat.{mod-lt}
 use native.Mathlib.Omega.{arith}
 use mathlib.Core.Path.{_≡_, refl, sym, ap, _∙_}
-use mathlib.Core.Bool.{Bool, true, false, cond, _&&_}
+use mathlib.Core.Bool.{Bool, true, false, cond, _&&_, _||_}
 use mathlib.Core.List.{List, [], _∷_, _++_, map, append-nil}
-use borrow.Author.Tests.{leb-true, leb-false, le-leb, eqb-true}
+use mathlib.Core.Logic.{inr}
+use borrow.Author.Tests.{leb-true, leb-false, le-leb, ltb-true, lt-ltb, eqb-true}
 use lib.ListN.{length, take, drop, getD, take-append-drop, length-append, List·getD-append}
 use lib.Seq.{drop-drop}
-use lib.Dec.{leb, eqb}
+use lib.Dec.{ltb, leb, eqb}
 use Rattle.pair.specs.Rank.{rank, position}
 use Rattle.pair.specs.Rising.{Each, keep, within, risingFrom, last}
 use Rattle.pair.proofs.Each.{Each-imply, Each-take, Each-drop}
@@ -16,7 +17,7 @@ use Rattle.pair.proofs.Keep.{keep-append, keep-none}
 use Rattle.pair.proofs.Parts.{atMost-all, Each-atMost}
 use Rattle.pair.proofs.Rising.{rising-cons, rising-head, rising-tail, rising-last}
 use Rattle.pair.proofs.Sets.{rising-Each}
-use Rattle.pair.proofs.Tests.{and-left, and-right}
+use Rattle.pair.proofs.Tests.{and-left, and-right, or-intro}
 use Rattle.block.specs.Block.{pairs, formed}
 use Rattle.block.specs.Wanted.{wordsBefore}
 use Rattle.block.proofs.Reading.{formed-some}
@@ -27,7 +28,7 @@ use Rattle.card.proofs.Live.{pairsAt-append}
 use Rattle.lookup.specs.Found.{mappedTo, span}
 use Rattle.lookup.specs.Segment.{Segment, spanned}
 use Rattle.lookup.specs.Walk.{runOf, runStartOf, placesOf, Ready}
-use Rattle.lookup.proofs.Span.{First, first}
+use Rattle.lookup.proofs.Span.{First, first, mapped-none, mapped-leading}
 use Rattle.lookup.proofs.Walking.{run-skip, start-skip}
 
 -- nothing at the place passes the test
@@ -63,11 +64,11 @@ first-head c i is s =
 none-behind :
     (c : List ℕ) (f : ℕ → Bool) (z : ℕ) → ((x : ℕ) → z < x → f x ≡ false) → (is : List ℕ) (j : ℕ) → blocksSound c is ≡ true →
     risingFrom j (pairsAt c is) ≡ true → Each (Empty c f) (drop (mappedTo c z is) is)
-unfolding mappedTo
-none-behind c f z h [] j s r = tt
+none-behind c f z h [] j s r = unfold mappedTo in tt
 none-behind c f z h (i ∷ is) j s r =
     let d = first c j i is s r in
-    go (leb (firstPair c i) z) refl (none-behind c f z h is (last j (pairs (place c i))) (d .sound) (d .behind))
+    rw (mapped-leading c z j i is s r)
+    (go (leb (firstPair c i) z) refl (none-behind c f z h is (last j (pairs (place c i))) (d .sound) (d .behind)))
   where
     go : (b : Bool) → leb (firstPair c i) z ≡ b → Each (Empty c f) (drop (mappedTo c z is) is) → Each (Empty c f) (drop (cond b (suc (mappedTo c z is)) 0) (i ∷ is))
     go true e ih = ih
@@ -80,31 +81,32 @@ none-behind c f z h (i ∷ is) j s r =
 none-before :
     (c : List ℕ) (f : ℕ → Bool) (a : ℕ) → ((x : ℕ) → x < a → f x ≡ false) → (is : List ℕ) (j : ℕ) → blocksSound c is ≡ true →
     risingFrom j (pairsAt c is) ≡ true → Each (Empty c f) (take (mappedTo c a is - 1) is)
-unfolding mappedTo
-none-before c f a h [] j s r = tt
-none-before c f a h (i ∷ []) j s r = go (leb (firstPair c i) a)
+none-before c f a h [] j s r = unfold mappedTo in tt
+none-before c f a h (i ∷ is) j s r =
+    let d = first c j i is s r in
+    let m = last j (pairs (place c i)) in
+    rw (mapped-leading c a j i is s r)
+    (go (leb (firstPair c i) a) (mappedTo c a is) d (mapped-none c a m is (d .sound) (d .behind)) (none-before c f a h is m (d .sound) (d .behind)))
   where
-    go : (b : Bool) → Each (Empty c f) (take (cond b (suc 0) 0 - 1) (i ∷ []))
-    go true = tt
-    go false = tt
-none-before c f a h (i ∷ k ∷ is) j s r =
-    let d = first c j i (k ∷ is) s r in
-    go (leb (firstPair c i) a) (leb (firstPair c k) a) refl d (none-before c f a h (k ∷ is) (last j (pairs (place c i))) (d .sound) (d .behind))
-  where
+    top : ℕ
+    top = last j (pairs (place c i))
+
+    over : (n : ℕ) → (a ≤ top → suc n ≡ 0) → (b : Bool) → leb a top ≡ b → top < a
+    over n m true e = absurd (omega (arith, m (leb-true a top e)))
+    over n m false e = leb-false a top e
+
+    -- where a place behind it has such a map pair, the place ends below a
     go :
-        (b e : Bool) → leb (firstPair c k) a ≡ e → First c j i (k ∷ is) →
-        Each (Empty c f) (take (cond e (suc (mappedTo c a is)) 0 - 1) (k ∷ is)) →
-        Each (Empty c f) (take (cond b (suc (cond e (suc (mappedTo c a is)) 0)) 0 - 1) (i ∷ k ∷ is))
-    go false e g d ih = tt
-    go true false g d ih = tt
-    go true true g d ih =
-        let n : suc (suc (mappedTo c a is)) - 1 ≡ suc (suc (mappedTo c a is) - 1) = omega arith in
-        let next = first c (last j (pairs (place c i))) k is (d .sound) (d .behind) in
-        let l : firstPair c k ≤ a = leb-true (firstPair c k) a g in
-        let top = last j (pairs (place c i)) in
+        (b : Bool) (n : ℕ) → First c j i is → (a ≤ top → n ≡ 0) → Each (Empty c f) (take (n - 1) is) →
+        Each (Empty c f) (take (cond b (suc n) 0 - 1) (i ∷ is))
+    go false n d m ih = tt
+    go true zero d m ih = tt
+    go true (suc n) d m ih =
+        let e : suc (suc n) - 1 ≡ suc (suc n - 1) = omega arith in
+        let less : top < a = over n m (leb a top) refl in
         let most : Each (λ x. x ≤ top) (pairs (place c i)) = rw (atMost-all (pairs (place c i)) top j (d .rises) (omega arith)) at (Each-atMost top (pairs (place c i))) in
-        rw n
-        (keep-none f (pairs (place c i)) (Each-imply (λ x. x ≤ top) (λ x. f x ≡ false) (λ x q. h x (omega (arith, next .low))) (pairs (place c i)) most), ih)
+        rw e
+        (keep-none f (pairs (place c i)) (Each-imply (λ x. x ≤ top) (λ x. f x ≡ false) (λ x q. h x (omega arith)) (pairs (place c i)) most), ih)
 
 -- empty places are passed over, before and behind
 run-before : (c : List ℕ) (f : ℕ → Bool) (is js : List ℕ) → Each (Empty c f) is → runOf c f (is ++ js) ≡ runOf c f js
@@ -179,20 +181,27 @@ cut is a b h =
 pub mapped-order : (c : List ℕ) (a z : ℕ) (is : List ℕ) → a ≤ z → mappedTo c a is ≤ mappedTo c z is
 unfolding mappedTo
 mapped-order c a z [] h = omega arith
-mapped-order c a z (i ∷ is) h = go (leb (firstPair c i) a) refl (mapped-order c a z is h)
+mapped-order c a z (i ∷ is) h =
+    let rest : mappedTo c a is ≤ mappedTo c z is = mapped-order c a z is h in
+    counts (leb (firstPair c i) a || ltb 0 (mappedTo c a is)) (leb (firstPair c i) z || ltb 0 (mappedTo c z is)) (mappedTo c a is) (mappedTo c z is)
+    (λ f. go (leb (firstPair c i) a) (ltb 0 (mappedTo c a is)) refl refl f rest) rest
   where
-    go : (s : Bool) → leb (firstPair c i) a ≡ s → mappedTo c a is ≤ mappedTo c z is → cond s (suc (mappedTo c a is)) 0 ≤ cond (leb (firstPair c i) z) (suc (mappedTo c z is)) 0
-    go true e ih = let l : firstPair c i ≤ a = leb-true (firstPair c i) a e in rw (le-leb (firstPair c i) z (omega arith)) (omega arith)
-    go false e ih = zero-le
+    counts : (s u : Bool) (m n : ℕ) → (s ≡ true → u ≡ true) → m ≤ n → cond s (suc m) 0 ≤ cond u (suc n) 0
+    counts true u m n h l = rw (h refl) (omega arith)
+    counts false u m n h l = zero-le
+
+    go : (s b : Bool) → leb (firstPair c i) a ≡ s → ltb 0 (mappedTo c a is) ≡ b → (s || b) ≡ true → mappedTo c a is ≤ mappedTo c z is → (leb (firstPair c i) z || ltb 0 (mappedTo c z is)) ≡ true
+    go true b e g f ih = let l : firstPair c i ≤ a = leb-true (firstPair c i) a e in rw (le-leb (firstPair c i) z (omega arith))
+    go false b e g f ih = let l : 0 < mappedTo c a is = ltb-true 0 (mappedTo c a is) (g ∙ f) in or-intro (leb (firstPair c i) z) (ltb 0 (mappedTo c z is)) (inr (lt-ltb 0 (mappedTo c z is) (omega arith)))
 
 pub mapped-most : (c : List ℕ) (z : ℕ) (is : List ℕ) → mappedTo c z is ≤ length is
 unfolding mappedTo
 mapped-most c z [] = omega arith
-mapped-most c z (i ∷ is) = go (leb (firstPair c i) z) (mapped-most c z is)
+mapped-most c z (i ∷ is) = go (leb (firstPair c i) z || ltb 0 (mappedTo c z is)) (mapped-most c z is)
   where
     go : (s : Bool) → mappedTo c z is ≤ length is → cond s (suc (mappedTo c z is)) 0 ≤ suc (length is)
     go true ih = omega arith
-    go false ih = omega arith
+    go false ih = zero-le
 
 around-take : (n s l m : ℕ) → m ≤ l → take m (around n s l) ≡ around n s m
 unfolding around

@@ -164,6 +164,7 @@ seeking-end {c} {t} {z} {s} {p} {b} k e =
       inside = zero-le;
       most = zero-le;
       fewer = λ l. absurd (let z : ⊥ = omega arith in z);
+      spent = λ l. refl;
       ready = λ r. rw (e r) at (k .ready r);
       run = λ r. sym (unfold runOf around in (rw (e r) at (k .run r)));
       starts = λ r. sym (unfold runStartOf around in (rw (e r) at (k .starts r)));
@@ -233,6 +234,7 @@ module _ {c : List ℕ} {t z : ℕ} {s : Stretch} {p b : ℕ} {x : Part} (k : Se
         inside = y .inside;
         most = omega (arith, k .most);
         fewer = λ g. omega (arith, k .most);
+        spent = λ g. absurd (let z : ⊥ = omega arith in z);
         ready = ready;
         run = λ r. y .positions (live r .0) ∙ sym (k .run r ∙ rw step (run-hit c f p behind (some r)));
         starts = λ r. y .before (live r .0) q ∙ sym (k .starts r ∙ rw step (start-hit c f p behind (some r)));
@@ -265,6 +267,7 @@ next-new {c} {w} {r} s h =
     record {
       inside = s .inside;
       fewer = λ l. omega (arith, s .fewer h);
+      spent = λ e. absurd (let z : ⊥ = omega arith in z);
       ready = λ g. record { new = s .ready (g .new); old = g .old };
       run = λ g. s .run (g .new) ∙ sym (or-some (firstRun c (w .term) (w .to) (w .new)) _ (some g));
       starts = λ g. s .starts (g .new) ∙ sym (or-some-at (firstRun c (w .term) (w .to) (w .new)) _ _ (some g));
@@ -282,6 +285,7 @@ next-old {c} {w} {r} {q} s h u =
     record {
       inside = u .inside;
       fewer = λ l. omega (arith, s .most, u .fewer l);
+      spent = λ e. omega (arith, s .spent empty, u .spent e);
       ready = λ g. record { new = s .ready (g .new); old = u .ready (g .old) };
       run = λ g. u .run (g .old) ∙ sym (unfold orElse in rw (run g));
       starts = λ g. u .starts (g .old) ∙ sym (unfold orElseAt in rw (run g));

@@ -2,7 +2,7 @@
 use Prim.Native.Nat.{ℕ, suc, _+_, _-_}
 use mathlib.Core.Bool.{cond, _&&_, _||_, not}
 use mathlib.Core.List.{List, [], _∷_, map}
-use lib.ListN.{length, take, getD}
+use lib.ListN.{length}
 use lib.Seq.{sets}
 use lib.Dec.{ltb, leb, eqb}
 use Rattle.pair.specs.Rank.{rank, position}
@@ -16,12 +16,13 @@ use Rattle.card.specs.Sound.{judged}
 unfoldable pub found : List ℕ → ℕ → ℕ → ℕ → List ℕ
 found c t a z = map position (within (rank t a) (rank t z) (live c))
 
--- how many of the places have a map pair of at most k
+-- how many places stand up to the last whose map pair is at most k, that one included; 0 where there is no such last
 unfoldable pub mappedTo : List ℕ → ℕ → List ℕ → ℕ
 mappedTo c k [] = 0
-mappedTo c k (i ∷ is) = cond (leb (firstPair c i) k) (suc (mappedTo c k is)) 0
+mappedTo c k (i ∷ is) = cond (leb (firstPair c i) k || ltb 0 (mappedTo c k is)) (suc (mappedTo c k is)) 0
 
--- the blocks from the last whose map pair is at most (t, a), or else the first, up to the last whose map pair is at most (t, z)
+-- the blocks from the last whose map pair is at most (t, a), or else the first, up to the last whose map pair is at most (t, z);
+-- none where there is no such last
 unfoldable pub span : List ℕ → ℕ → ℕ → ℕ → List ℕ → ℕ
 span c t a z is = mappedTo c (rank t z) is - (mappedTo c (rank t a) is - 1)
 
@@ -82,27 +83,3 @@ runStart c t a z =
     cond (eqb (questionNumber c t a z) 0)
     (runStartAt c 0 (rank t a) (rank t z) (newPlaces c) (runStartAt c (boundary c) (rank t a) (rank t z) (oldPlaces c) 0))
     0
-
--- all that the posting reader yields: what is found, and nothing where the question is refused
-unfoldable pub allYielded : List ℕ → ℕ → ℕ → ℕ → List ℕ
-allYielded c t a z = cond (eqb (questionNumber c t a z) 0) (found c t a z) []
-
--- what it yields at a time: a posting, or the end
-pub data Yielded : Type 0 where
-  posting : ℕ → Yielded
-  ended : Yielded
-
--- the yield after n others: the postings one after another, then the end for ever
-unfoldable pub yielded : List ℕ → ℕ → ℕ → ℕ → ℕ → Yielded
-yielded c t a z n = getD (map posting (allYielded c t a z)) n ended
-
--- a reading: the first postings that a reader yields, as many as there are answer words
-pub record Read : Type 0 where
-  pub number : ℕ
-  pub count : ℕ
-  pub answer : List ℕ
-
-unfoldable pub read : List ℕ → ℕ → ℕ → ℕ → List ℕ → Read
-read c t a z answer =
-    let first = take (length answer) (allYielded c t a z) in
-    record { number = questionNumber c t a z; count = length first; answer = sets answer 0 first }

@@ -15,7 +15,9 @@ use Rattle.card.specs.Scan.{Shaped}
 use Rattle.lookup.specs.declared.walk.Stretch.{Stretch}
 use Rattle.lookup.specs.declared.walk.Walk.{Walk}
 use Rattle.lookup.specs.declared.walk.StretchRun.{StretchRun}
+use Rattle.lookup.specs.declared.walk.WalkStart.{WalkStart}
 use Rattle.lookup.specs.declared.walk.WalkRun.{WalkRun}
+use Rattle.lookup.specs.Found.{found, questionNumber, blocksRead}
 
 -- the test of a card's shape
 unfoldable pub isShaped : List ℕ → Bool
@@ -74,6 +76,7 @@ pub record Sought (c : List ℕ) (t z : ℕ) (s : Stretch) (r : StretchRun) : Ty
   pub inside : r .start + r .len ≤ length c
   pub most : r .rest .blocks ≤ s .blocks
   pub fewer : 0 < r .len → r .rest .blocks < s .blocks
+  pub spent : r .len ≡ 0 → r .rest .blocks ≡ 0
   pub ready : Ready c s → Ready c (r .rest)
   pub run : Ready c s → take (r .len) (drop (r .start) c) ≡ firstRun c t z s
   pub starts : Ready c s → r .start ≡ firstStart c t z s
@@ -109,9 +112,19 @@ pub record ReadyWalk (c : List ℕ) (w : Walk) : Type 0 where
   pub new : Ready c (w .new)
   pub old : Ready c (w .old)
 
+-- a walk at its start: the question's number, and ahead of it what is found; nothing, and no block, where the question is refused
+pub record Started (c : List ℕ) (t a z : ℕ) (r : WalkStart) : Type 0 where
+  pub number : r .number ≡ questionNumber c t a z
+  pub ready : ReadyWalk c (r .walk)
+  pub wanted : ahead c (r .walk) ≡ cond (eqb (questionNumber c t a z) 0) (found c t a z) []
+  pub blocks : blocksOf (r .walk) ≡ cond (eqb (questionNumber c t a z) 0) (blocksRead c t a z) 0
+
+-- the next run of a walk: a part of the card with fewer blocks behind it, none behind an empty one; of a walk over live blocks it is the next run,
+-- and what was ahead is the run and what is ahead behind it
 pub record Next (c : List ℕ) (w : Walk) (r : WalkRun) : Type 0 where
   pub inside : r .start + r .len ≤ length c
   pub fewer : 0 < r .len → blocksOf (r .rest) < blocksOf w
+  pub spent : r .len ≡ 0 → blocksOf (r .rest) ≡ 0
   pub ready : ReadyWalk c w → ReadyWalk c (r .rest)
   pub run : ReadyWalk c w → take (r .len) (drop (r .start) c) ≡ nextRun c w
   pub starts : ReadyWalk c w → r .start ≡ nextStart c w

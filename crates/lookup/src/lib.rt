@@ -2,8 +2,8 @@
 ghost use mathlib.Core.Path.{_≡_};
 ghost use Prim.Native.Nat.{_+_, _*_};
 ghost use Rattle.pair.specs.Bounds.{lowest, highest};
-ghost use Rattle.lookup.specs.Found.{questionNumber, run, runStart};
-ghost use Rattle.lookup.specs.Answer.{Answered, Viewed};
+ghost use Rattle.lookup.specs.Found.{questionNumber, lookup, run, runStart};
+ghost use Rattle.lookup.specs.Answer.{answerOf, Viewed};
 use crate::map::opened;
 use crate::taking::copy_ahead;
 use crate::taking::count_ahead;
@@ -11,7 +11,6 @@ use crate::walk::next_run;
 use pair::Pair;
 
 pub mod map; // the blocks that are read, found by the map
-pub mod reading; // the posting reader's cursor, one posting after another
 pub mod taking; // the wanted positions of a walk counted, and moved to answer words
 pub mod walk; // the blocks that are read, one run of wanted positions after another
 
@@ -34,7 +33,7 @@ pub fn run_view_number(card: &[u32], term: u32, from: u32, to: u32) -> u32
     if number != 0 {
         return number;
     }
-    if (term == 0) | (from == 0) | (to < from) {
+    if !pair::is_pair(term, from) | (to < from) {
         return NO_QUESTION;
     }
     0
@@ -42,7 +41,7 @@ pub fn run_view_number(card: &[u32], term: u32, from: u32, to: u32) -> u32
 
 // Writes the live positions of the term, from one to another, into the first answer words.
 pub fn lookup(card: &[u32], term: u32, from: u32, to: u32, answer: &mut [u32]) -> LookupAnswer
-    ensures { λ r. ⌜ Answered (now (card .entry)) term from to (now (answer .entry)) r (now (answer .exit)) ⌝ }
+    ensures { λ r. ⌜ (r ≡ answerOf (lookup (now (card .entry)) term from to (now (answer .entry)))) × (now (answer .exit) ≡ lookup (now (card .entry)) term from to (now (answer .entry)) .answer) ⌝ }
 {
     let number = run_view_number(card, term, from, to);
     if number != 0 {
@@ -57,15 +56,17 @@ pub fn lookup(card: &[u32], term: u32, from: u32, to: u32, answer: &mut [u32]) -
     let new = walk.new;
     let old = walk.old;
     let blocks = new.blocks + old.blocks;
+    let found = count as u32;
+    let read = blocks as u32;
     LookupAnswer::Found {
-        count: count as u32,
-        blocks: blocks as u32,
+        count: found,
+        blocks: read,
     }
 }
 
 // The lookup of all positions of a term: from the lowest pair's to the highest pair's.
 pub fn lookup_all(card: &[u32], term: u32, answer: &mut [u32]) -> LookupAnswer
-    ensures { λ r. ⌜ Answered (now (card .entry)) term (lowest .position) (highest .position) (now (answer .entry)) r (now (answer .exit)) ⌝ }
+    ensures { λ r. ⌜ (r ≡ answerOf (lookup (now (card .entry)) term (lowest .position) (highest .position) (now (answer .entry)))) × (now (answer .exit) ≡ lookup (now (card .entry)) term (lowest .position) (highest .position) (now (answer .entry)) .answer) ⌝ }
 {
     let low = Pair::LOWEST;
     let high = Pair::HIGHEST;

@@ -25,7 +25,7 @@ fn first_pair(card: &[u32], place: usize) -> u64
     mapped.rank()
 }
 
-// How many of the len places from start have a map pair of at most the rank.
+// How many of the len places from start stand up to the last whose map pair is at most the rank.
 fn mapped_to(card: &[u32], start: usize, len: usize, rank: u64) -> usize
     requires { ⌜ Segment (now card) start len ⌝ }
     ensures { λ r. ⌜ r ≡ mappedTo (now (card .entry)) «rank» (around (placeCount (now (card .entry))) start len) ⌝ }

@@ -3,31 +3,39 @@ ghost use mathlib.Core.Path.{_≡_};
 ghost use Prim.Native.Nat.{_<_};
 ghost use Rattle.card.specs.Layout.{placeCount};
 ghost use Rattle.card.specs.Scan.{Shaped};
-ghost use Rattle.lookup.specs.Walk.{isShaped, PlacePart, Sought, Next};
+ghost use Rattle.lookup.specs.Walk.{isShaped, PlacePart, Sought, Started, Next};
+use crate::map::opened;
+use crate::run_view_number;
 use block::wanted::Part;
 use card::CONFIGURATION_WORDS;
 use card::ENTRY_WIDTH;
 
 // Blocks of one segment: so many places from one on, around the circle. Wanted of them are positions above after.
 pub struct Stretch {
-    pub place: usize,
-    pub blocks: usize,
-    pub after: u32,
+    pub(crate) place: usize,
+    pub(crate) blocks: usize,
+    pub(crate) after: u32,
 }
 
 // The blocks still to be read, of the new segment and then of the old. Wanted of them are positions of the term, up to one.
 pub struct Walk {
-    pub term: u32,
-    pub to: u32,
-    pub new: Stretch,
-    pub old: Stretch,
+    pub(crate) term: u32,
+    pub(crate) to: u32,
+    pub(crate) new: Stretch,
+    pub(crate) old: Stretch,
+}
+
+// The number of a question, 0 where it is not refused, and its walk.
+pub struct WalkStart {
+    pub number: u32,
+    pub walk: Walk,
 }
 
 // The wanted positions of the first block of a stretch that has any, as a part of the card, and the blocks behind it.
-pub struct StretchRun {
-    pub start: usize,
-    pub len: usize,
-    pub rest: Stretch,
+struct StretchRun {
+    start: usize,
+    len: usize,
+    rest: Stretch,
 }
 
 // The same of a walk.
@@ -35,6 +43,32 @@ pub struct WalkRun {
     pub start: usize,
     pub len: usize,
     pub rest: Walk,
+}
+
+const NO_BLOCKS: Stretch = Stretch {
+    place: 0,
+    blocks: 0,
+    after: 0,
+};
+
+// Judges the card and the question, and opens its walk. Refused, the walk has no blocks.
+pub fn start_walk(card: &[u32], term: u32, from: u32, to: u32) -> WalkStart
+    ensures { λ r. ⌜ Started (now (card .entry)) term from to r ⌝ }
+{
+    let number = run_view_number(card, term, from, to);
+    if number != 0 {
+        return WalkStart {
+            number,
+            walk: Walk {
+                term,
+                to,
+                new: NO_BLOCKS,
+                old: NO_BLOCKS,
+            },
+        };
+    }
+    let walk = opened(card, term, from, to);
+    WalkStart { number, walk }
 }
 
 // Whether the block size and the count of places are within their limits and the card has the length that they give.
@@ -132,7 +166,7 @@ fn seek(card: &[u32], term: u32, to: u32, s: Stretch) -> StretchRun
 }
 
 // The next run of a walk.
-pub(crate) fn next_run(card: &[u32], w: Walk) -> WalkRun
+pub fn next_run(card: &[u32], w: Walk) -> WalkRun
     ensures { λ r. ⌜ Next (now (card .entry)) w r ⌝ }
 {
     let term = w.term;

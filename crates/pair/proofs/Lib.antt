@@ -1,3 +1,4 @@
+pub mod Bounds
 pub mod Each
 pub mod FirstOf
 pub mod Keep

@@ -7,7 +7,7 @@ use mathlib.Core.List.{List, [], _∷_, _++_}
 use lib.ListN.{length, take, drop, getD, length-append}
 use lib.Seq.{take-append-seam, drop-append-seam}
 use lib.Dec.{ltb, leb}
-use borrow.Author.Tests.{leb-true, leb-false, le-leb, lt-leb}
+use borrow.Author.Tests.{leb-true, leb-false, ltb-true, ltb-false, le-leb, lt-leb}
 use Rattle.pair.specs.Rising.{keep, above, atMost, risingFrom}
 use Rattle.pair.proofs.Keep.{keep-keep, length-keep}
 use Rattle.pair.proofs.Rising.{rising-tail, rising-above}
@@ -37,38 +37,45 @@ atMost-out (x ∷ xs) k (suc i) b r l h = go (leb x b) (atMost-out xs x i b (ris
     go true ih = omega arith
     go false ih = omega arith
 
--- a search by halving: where the list rises, what is sought lies from low to high
+-- a search by halving, in any list: the element before low is at most b, and the one at high is above it
 pub record Halved (xs : List ℕ) (b low high : ℕ) : Type 0 where
   pub order : low ≤ high
   pub inside : high ≤ length xs
-  pub lowest : risingFrom 0 xs ≡ true → low ≤ length (atMost b xs)
-  pub highest : risingFrom 0 xs ≡ true → length (atMost b xs) ≤ high
+  pub below : 0 < low → getD xs (low - 1) 0 ≤ b
+  pub beyond : high < length xs → b < getD xs high 0
 
 pub halved-start : (xs : List ℕ) (b : ℕ) → Halved xs b 0 (length xs)
-unfolding atMost
 halved-start xs b =
-    record { order = zero-le; inside = omega arith; lowest = λ r. zero-le; highest = λ r. length-keep (λ x. leb x b) xs }
+    record {
+      order = zero-le;
+      inside = omega arith;
+      below = λ l. absurd (let z : ⊥ = omega arith in z);
+      beyond = λ l. absurd (let z : ⊥ = omega arith in z);
+    }
 
 pub halved-up : {xs : List ℕ} {b low high m : ℕ} → Halved xs b low high → low ≤ m → m < high → getD xs m 0 ≤ b → Halved xs b (m + 1) high
 halved-up {xs} {b} {low} {high} {m} h l u e =
-    record {
-      order = omega arith;
-      inside = h .inside;
-      lowest = λ r. omega (arith, atMost-in xs 0 m b r (omega arith) e);
-      highest = h .highest;
-    }
+    let n : m + 1 - 1 ≡ m = omega arith in
+    record { order = omega arith; inside = h .inside; below = λ q. rw n e; beyond = h .beyond }
 
 pub halved-down : {xs : List ℕ} {b low high m : ℕ} → Halved xs b low high → low ≤ m → m < high → b < getD xs m 0 → Halved xs b low m
-halved-down {xs} {b} {low} {high} {m} h l u e =
-    record {
-      order = l;
-      inside = omega arith;
-      lowest = h .lowest;
-      highest = λ r. atMost-out xs 0 m b r (omega arith) e;
-    }
+halved-down {xs} {b} {low} {high} {m} h l u e = record { order = l; inside = omega (arith, h .inside); below = h .below; beyond = λ q. e }
 
+-- in a rising list, as many are at most b as stand before the place found
 pub halved-end : {xs : List ℕ} {b low high : ℕ} → Halved xs b low high → high ≤ low → risingFrom 0 xs ≡ true → low ≡ length (atMost b xs)
-halved-end h l r = omega (arith, h .lowest r, h .highest r)
+halved-end {xs} {b} {low} {high} h l r =
+    omega (arith, h .order, lowest low (h .below) (omega (arith, h .order, h .inside)), highest (ltb high (length xs)) refl)
+  where
+    lowest : (n : ℕ) → (0 < n → getD xs (n - 1) 0 ≤ b) → n ≤ length xs → n ≤ length (atMost b xs)
+    lowest zero f i = zero-le
+    lowest (suc n) f i =
+        let e : suc n - 1 ≡ n = omega arith in
+        let g : getD xs n 0 ≤ b = rw e at (f (omega arith)) in
+        omega (arith, atMost-in xs 0 n b r (omega arith) g)
+
+    highest : (s : Bool) → ltb high (length xs) ≡ s → length (atMost b xs) ≤ high
+    highest true e = let i = ltb-true high (length xs) e in atMost-out xs 0 high b r i (h .beyond i)
+    highest false e = unfold atMost in omega (arith, ltb-false high (length xs) e, length-keep (λ x. leb x b) xs)
 
 -- the elements above a and at most z are a stretch of the list
 pub between : (a z : ℕ) (xs : List ℕ) → keep (λ x. ltb a x && leb x z) xs ≡ atMost z (above a xs)

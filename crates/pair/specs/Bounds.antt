@@ -10,6 +10,7 @@ lowest = record { term = 1; position = 1 }
 abbrev pub highest : Pair
 highest = record { term = 4294967295; position = 4294967295 }
 
--- the words are a term and a position of at least those of the lowest pair; a 32-bit word is never above those of the highest
+-- the words are a term and a position: each is at least the lowest pair's and at most the highest pair's
 abbrev pub isPair : ℕ → ℕ → Bool
-isPair t p = leb (lowest .term) t && leb (lowest .position) p
+isPair t p =
+    (leb (lowest .term) t && leb t (highest .term)) && (leb (lowest .position) p && leb p (highest .position))

@@ -55,10 +55,12 @@ pub fn highest() -> Pair
     Pair::HIGHEST
 }
 
-// Whether two words are a term and a position.
+// Whether two words are a term and a position: each from the lowest pair's to the highest pair's.
 pub fn is_pair(term: u32, position: u32) -> bool
     ensures { λ r. ⌜ r ≡ isPair term position ⌝ }
 {
     let low = Pair::LOWEST;
-    (low.term <= term) & (low.position <= position)
+    let high = Pair::HIGHEST;
+    ((low.term <= term) & (term <= high.term))
+        & ((low.position <= position) & (position <= high.position))
 }

@@ -16,5 +16,6 @@ pub mod Settled
 pub mod Skipping
 pub mod Spent
 pub mod Steps
+pub mod Values
 pub mod Writes
 pub mod Writing

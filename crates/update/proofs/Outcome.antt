@@ -20,18 +20,31 @@ use Rattle.card.specs.Sound.{judged}
 use Rattle.card.proofs.Facts.{Facts}
 use Rattle.batch.specs.Batch.{batchNumber}
 use Rattle.update.specs.declared.StepAnswer.{StepAnswer}
+use Rattle.update.specs.declared.StepAnswer.the-variants.{Refused, Block, MapEntry}
 use Rattle.update.specs.declared.due.Due.{Due}
-use Rattle.update.specs.Answer.{Answered, freedBy, configurationOf, outcome}
+use Rattle.update.specs.Answer.{answerOf, freedBy, configurationOf, outcome}
 use Rattle.update.specs.Due.{Answers}
 use Rattle.update.specs.Step.{Step, remains, duePlace, spent, configured, nextBoundary, freed, grown, configuration, dueBlock, dueEntry, nextWrite, written, crowded, stepNumber, taken, step}
 use Rattle.update.proofs.Grown.{Remaining, due-first}
 
-pub answered-as : {a : StepAnswer} {c : List ℕ} {s t : Step} → Answered a c s → s ≡ t → Answered a c t
-answered-as {a} {c} h e = subst (λ (u : Step). Answered a c u) e h
+pub answered-as : {a : StepAnswer} {c : List ℕ} {s t : Step} → (a ≡ answerOf s) × (c ≡ s .card) → s ≡ t → (a ≡ answerOf t) × (c ≡ t .card)
+answered-as h e = (h .0 ∙ ap answerOf e, h .1 ∙ ap (λ (s : Step). s .card) e)
 
 -- a refusal
 abbrev pub refusal : List ℕ → ℕ → Step
 refusal c n = record { number = n; write = 0; freed = 0; finished = false; card = c }
+
+pub answer-refused : (c : List ℕ) (n : ℕ) → (n ≡ 0 → ⊥) → Refused n ≡ answerOf (refusal c n)
+unfolding answerOf
+answer-refused c n h = rw (ne-eqb n 0 h)
+
+pub answer-block : (c : List ℕ) → Block ≡ answerOf (record { number = 0; write = 1; freed = 0; finished = false; card = c })
+unfolding answerOf
+answer-block c = refl
+
+pub answer-entry : (c : List ℕ) → MapEntry ≡ answerOf (record { number = 0; write = 2; freed = 0; finished = false; card = c })
+unfolding answerOf
+answer-entry c = refl
 
 -- the second write
 abbrev mapped : List ℕ → List ℕ → Step

@@ -1,4 +1,4 @@
--- A step's answer: the paper's number and values for each of its cases, and what a step does with a due block in hand.
+-- A step's answer: which of its cases, the paper's number and values for each, and what a step does with a due block in hand.
 use Prim.Native.Nat.{ℕ, _+_, _-_}
 use mathlib.Core.Path.{_≡_}
 use mathlib.Core.Bool.{Bool, false, cond, not}
@@ -37,13 +37,11 @@ finishedOf Block = false
 finishedOf MapEntry = false
 finishedOf (Configuration f d) = d
 
--- the answer and the card left are those of the step
-pub record Answered (a : StepAnswer) (c : List ℕ) (s : Step) : Type 0 where
-  pub number : numberOf a ≡ s .number
-  pub write : writeOf a ≡ s .write
-  pub freed : freedOf a ≡ s .freed
-  pub finished : finishedOf a ≡ s .finished
-  pub card : c ≡ s .card
+-- what a step answers: the refusal's number, or else its write
+unfoldable pub answerOf : Step → StepAnswer
+answerOf s =
+    cond (not (eqb (s .number) 0)) (Refused (s .number))
+    (cond (eqb (s .write) 1) Block (cond (eqb (s .write) 2) MapEntry (Configuration (s .freed) (s .finished))))
 
 -- the old places that the configuration write frees, from what filling the due block told
 unfoldable pub freedBy : List ℕ → Due → ℕ

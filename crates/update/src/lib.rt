@@ -7,7 +7,7 @@ ghost use Rattle.pair.specs.Rising.{same};
 ghost use Rattle.card.specs.Layout.{blockSize, oldLength};
 ghost use Rattle.card.specs.Sound.{judged};
 ghost use Rattle.update.specs.Step.{configured, step};
-ghost use Rattle.update.specs.Answer.{numberOf, writeOf, freedOf, finishedOf, Answered, freedBy, configurationOf, outcome};
+ghost use Rattle.update.specs.Answer.{numberOf, writeOf, freedOf, finishedOf, answerOf, freedBy, configurationOf, outcome};
 use card::CONFIGURATION_WORDS;
 use card::ENTRY_WIDTH;
 use due::Due;
@@ -142,7 +142,7 @@ fn freed(card: &[u32], due: Due) -> u32
 fn settle(card: &mut [u32], due: Due, freed: u32, grown: u32) -> StepAnswer
     requires { ⌜ judged (now card) ≡ 0 ⌝ }
     requires { ⌜ freed ≤ oldLength (now card) ⌝ }
-    ensures { λ r. ⌜ Answered r (now (card .exit)) (configurationOf (now (card .entry)) due freed grown) ⌝ }
+    ensures { λ r. ⌜ (r ≡ answerOf (configurationOf (now (card .entry)) due freed grown)) × (now (card .exit) ≡ configurationOf (now (card .entry)) due freed grown .card) ⌝ }
 {
     let start = card[3] + freed;
     let left = card[4] - freed;
@@ -164,7 +164,7 @@ fn settle(card: &mut [u32], due: Due, freed: u32, grown: u32) -> StepAnswer
 fn advance(card: &mut [u32], block: &[u32], due: Due) -> StepAnswer
     requires { ⌜ judged (now card) ≡ 0 ⌝ }
     requires { ⌜ length (now block) ≡ blockSize (now card) ⌝ }
-    ensures { λ r. ⌜ Answered r (now (card .exit)) (outcome (now (card .entry)) (now (block .entry)) due) ⌝ }
+    ensures { λ r. ⌜ (r ≡ answerOf (outcome (now (card .entry)) (now (block .entry)) due)) × (now (card .exit) ≡ outcome (now (card .entry)) (now (block .entry)) due .card) ⌝ }
 {
     let places = card[2];
     let old_length = card[4];
@@ -196,7 +196,7 @@ fn advance(card: &mut [u32], block: &[u32], due: Due) -> StepAnswer
 
 // One step of a pass over a card with a batch.
 pub fn step(card: &mut [u32], batch: &[u32]) -> StepAnswer
-    ensures { λ r. ⌜ Answered r (now (card .exit)) (step (now (card .entry)) (now (batch .entry))) ⌝ }
+    ensures { λ r. ⌜ (r ≡ answerOf (step (now (card .entry)) (now (batch .entry)))) × (now (card .exit) ≡ step (now (card .entry)) (now (batch .entry)) .card) ⌝ }
 {
     let judged = card::judge(card);
     if judged != 0 {

@@ -1,5 +1,7 @@
 -- `gameindex::gi_step` meets its contract: the numbers of the step's answer are those of the definition.
 use mathlib.Core.Path.{ap, _∙_}
+use Rattle.update.specs.Answer.{numberOf, writeOf, freedOf, finishedOf}
+use Rattle.update.proofs.Values.{values}
 use Rattle.gameindex.specs.Flat.{flag}
 use borrow.Author.Needs.{needs}
 use Rattle.gameindex.proofs.gi_step.Statement.{statement}
@@ -30,11 +32,11 @@ returns : tie.Need-returns
 returns c =
     let a = c .before .before .before .before .before .before .before .step .ensures in
     record {
-      ofNumber = c .number-of .ensures ∙ a .number;
-      ofWrite = c .before .before .before .before .write-of .ensures ∙ a .write;
-      ofFreed = c .before .before .before .freed-of .ensures ∙ a .freed;
-      ofFinished = c .before .flag .ensures ∙ ap flag (c .before .before .finished-of .ensures ∙ a .finished);
-      ofCard = a .card;
+      ofNumber = c .number-of .ensures ∙ ap numberOf (a .0) ∙ values _ _ .number;
+      ofWrite = c .before .before .before .before .write-of .ensures ∙ ap writeOf (a .0) ∙ values _ _ .write;
+      ofFreed = c .before .before .before .freed-of .ensures ∙ ap freedOf (a .0) ∙ values _ _ .freed;
+      ofFinished = c .before .flag .ensures ∙ ap flag (c .before .before .finished-of .ensures ∙ ap finishedOf (a .0) ∙ values _ _ .finished);
+      ofCard = a .1;
     }
 
 pub gi-step-spec : {M : Type 1} → statement M

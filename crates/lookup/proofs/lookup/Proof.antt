@@ -8,7 +8,7 @@ run-view-number-requires : tie.Need-run-view-number-requires
 run-view-number-requires c κs = search needs
 
 returns : tie.Need-returns
-returns c = answered-refused (c .before .run-view-number .ensures) (c .if1 .taken)
+returns c = answered-refused _ _ _ _ _ (c .before .run-view-number .ensures) (c .if1 .taken)
 
 opened-requires : tie.Need-opened-requires
 opened-requires c κs = search needs
@@ -17,7 +17,7 @@ count-ahead-requires : tie.Need-count-ahead-requires
 count-ahead-requires c κs = search needs
 
 returns-2 : tie.Need-returns-2
-returns-2 c = answered-short (c .before .before .before .before .run-view-number .ensures) (c .before .before .before .if1 .left) (c .before .before .opened .ensures) (c .before .count-ahead .ensures) (c .if2 .taken)
+returns-2 c = answered-short _ _ _ _ _ (c .before .before .before .before .run-view-number .ensures) (c .before .before .before .if1 .left) (c .before .before .opened .ensures) (c .before .count-ahead .ensures) (c .if2 .taken)
 
 copy-ahead-requires : tie.Need-copy-ahead-requires
 copy-ahead-requires c κs = search needs
@@ -25,17 +25,17 @@ copy-ahead-requires c κs = search needs
 add-blocks : tie.Need-add-blocks
 add-blocks c = search needs
 
-cast-t17 : tie.Need-cast-t17
-cast-t17 c = search needs
+cast-found : tie.Need-cast-found
+cast-found c = search needs
 
-cast-t18 : tie.Need-cast-t18
-cast-t18 c = search needs
+cast-read : tie.Need-cast-read
+cast-read c = search needs
 
 same-length : tie.Need-same-length
 same-length c = search needs
 
 returns-3 : tie.Need-returns-3
-returns-3 c = answered-found (c .before .before .before .before .before .before .before .before .before .before .before .before .run-view-number .ensures) (c .before .before .before .before .before .before .before .before .before .before .before .if1 .left) (c .before .before .before .before .before .before .before .before .before .before .opened .ensures) (c .before .before .before .before .before .before .before .before .before .count-ahead .ensures) (c .before .before .before .before .before .before .before .before .if2 .left) (c .before .before .before .before .before .before .copy-ahead .ensures)
+returns-3 c = answered-found _ _ _ _ _ (c .before .before .before .before .before .before .before .before .before .before .before .before .run-view-number .ensures) (c .before .before .before .before .before .before .before .before .before .before .before .if1 .left) (c .before .before .before .before .before .before .before .before .before .before .opened .ensures) (c .before .before .before .before .before .before .before .before .before .count-ahead .ensures) (c .before .before .before .before .before .before .before .before .if2 .left) (c .before .before .before .before .before .before .copy-ahead .ensures)
 
 pub lookup-spec : {M : Type 1} → statement M
 lookup-spec =
@@ -48,7 +48,7 @@ lookup-spec =
     returns-2
     copy-ahead-requires
     add-blocks
-    cast-t17
-    cast-t18
+    cast-found
+    cast-read
     same-length
     returns-3)

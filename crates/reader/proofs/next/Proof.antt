@@ -1,4 +1,4 @@
--- `reader::next` meets its contract: a walk of its MIR, by hand. The borrow of the reader is opened, its two fields are read, `step_at` is called with the borrow open, the cursor is stored, and the borrow is closed.
+-- `reader::next` meets its contract: a walk of its MIR, by hand. The borrow of the reader is opened, its slice and its cursor are read, `step_at` is called with the borrow open, the cursor is stored, and the borrow is closed.
 -- Assumes nothing.
 use mathlib.Core.Path.{_≡_, refl, ap, subst}
 use Prim.Native.Nat.{ℕ}
@@ -43,22 +43,22 @@ use denote.Triple.Spec.{Meets, tripleOf}
 use denote.Triple.Statement.{Contract, Triple}
 use denote.Triple.Table.{entered, cited}
 use denote.Triple.Walked.{says, Stays, stay-ref, walkOf, goes-ref, Walks, ends-at, walked, walk-meets}
-use Rattle.lookup.specs.Reading.{Stepped}
+use Rattle.reader.specs.Cursor.{Stepped}
 use Rattle.reader.specs.declared.PostingReader.{PostingReader}
-use Rattle.lookup.specs.declared.reading.Cursor.{Cursor}
-use Rattle.lookup.specs.declared.reading.Step.{Step}
+use Rattle.reader.specs.declared.cursor.Cursor.{Cursor}
+use Rattle.reader.specs.declared.cursor.Step.{Step}
 use Rattle.reader.proofs.PostingReader as T
 use Rattle.reader.proofs.PostingReader.Laws as T′
-use Rattle.lookup.proofs.reading.Cursor as Cur
-use Rattle.lookup.proofs.reading.Cursor.Laws as Cur′
-use Rattle.lookup.proofs.reading.Step as St
-use Rattle.lookup.proofs.reading.Step.Laws as St′
-use Rattle.lookup.proofs.reading.Yield as Y
-use Rattle.lookup.proofs.reading.Yield.Laws as Y′
-use Rattle.lookup.proofs.reading.step_at as stp
-use Rattle.lookup.proofs.reading.step_at.Symbol as stp-def
-use Rattle.lookup.proofs.reading.step_at.Symbol.{name as #step-at}
-use Rattle.lookup.proofs.reading.step_at.Met as stp-thm
+use Rattle.reader.proofs.cursor.Cursor as Cur
+use Rattle.reader.proofs.cursor.Cursor.Laws as Cur′
+use Rattle.reader.proofs.cursor.Step as St
+use Rattle.reader.proofs.cursor.Step.Laws as St′
+use Rattle.reader.proofs.Yield as Y
+use Rattle.reader.proofs.Yield.Laws as Y′
+use Rattle.reader.proofs.cursor.step_at as stp
+use Rattle.reader.proofs.cursor.step_at.Symbol as stp-def
+use Rattle.reader.proofs.cursor.step_at.Symbol.{name as #step-at}
+use Rattle.reader.proofs.cursor.step_at.Met as stp-thm
 use Rattle.reader.proofs.next.Key.{name as #me}
 use Rattle.reader.proofs.next as F
 use Rattle.reader.proofs.next.Statement as stated
@@ -88,7 +88,7 @@ module _ {M : Type 1} (𝓤 : URA M) (H : Heap 𝓤) (A : Atoms 𝓤) (W : Given
   at = (vptr b o ∷ [], tt)
 
   abbrev h′ : Cursor → PostingReader
-  h′ c = record { card = h .card; cursor = c }
+  h′ c = record { number = h .number; card = h .card; cursor = c }
 
   abbrev Post : Val → SProp 𝓤
   Post = walkOf 𝓤 H A F.ended stayed (F.clauses 𝓤 H A at-mem run) .post (((κ, (κ′, tt)), (q, (q′, tt)), bounds, x, at), tt)
@@ -100,7 +100,7 @@ module _ {M : Type 1} (𝓤 : URA M) (H : Heap 𝓤) (A : Atoms 𝓤) (W : Given
   L = T′.the-laws (α κ′)
 
   abbrev vd : Values (D .parts)
-  vd = (h .card, (h .cursor, tt))
+  vd = (h .number, (h .card, (h .cursor, tt)))
 
   abbrev Own : PostingReader → Fml
   Own d = B κ′ .own d (T′.lowered d ∷ [])
@@ -115,7 +115,7 @@ module _ {M : Type 1} (𝓤 : URA M) (H : Heap 𝓤) (A : Atoms 𝓤) (W : Given
   exits : (r : Step) → Said r → ent 𝓤 (⋆ 𝓤 H A (‵ (fobs γ (B κ′ .coded .code (h′ (r .cursor)))) ∷ ‵ (fbor κ (Body (mem (B κ′)) b o γ)) ∷ ‵ (flft κ q) ∷ (‵ (flft κ′ q′) ⊛ ‵ ftrue) ∷ ‵ (Y.the-row .own (r .yielded) (yv r ∷ [])) ∷ [])) (Post (yv r))
   exits r e =
       qed W (‵ (fobs γ (B κ′ .coded .code (h′ (r .cursor)))) ∷ ‵ (fbor κ (Body (mem (B κ′)) b o γ)) ∷ ‵ (flft κ q) ∷ (‵ (flft κ′ q′) ⊛ ‵ ftrue) ∷ ‵ (Y.the-row .own (r .yielded) (yv r ∷ [])) ∷ []) ∵
-      suffices ! _ (ends-at 𝓤 H A F.ended stayed (F.clauses 𝓤 H A at-mem run) W (((κ, (κ′, tt)), (q, (q′, tt)), bounds, x, at), tt) (yv r) (r .yielded) (h′ (r .cursor), tt) (tt, tt)) $ says ! (e, refl) $
+      suffices ! _ (ends-at 𝓤 H A F.ended stayed (F.clauses 𝓤 H A at-mem run) W (((κ, (κ′, tt)), (q, (q′, tt)), bounds, x, at), tt) (yv r) (r .yielded) (h′ (r .cursor), tt) (tt, tt)) $ says ! (e, refl, refl) $
       move ! (2 ∷ 3 ∷ []) $ join ! $ frame ! $ feqI ! (List Val) (vptr b o ∷ []) (vptr b o ∷ []) refl $ fjoin3 ! $ nothing ! $ move ! (1 ∷ 0 ∷ []) $ fjoin ! $ frame ! $ done !
 
   -- ---- the call
@@ -125,8 +125,8 @@ module _ {M : Type 1} (𝓤 : URA M) (H : Heap 𝓤) (A : Atoms 𝓤) (W : Given
   gives : Is Cur.the-row (h .cursor) (Cur′.lowered (h .cursor) ∷ []) → ent 𝓤 (sep 𝓤 (sep 𝓤 (A .lft κ′ q′) (emp 𝓤)) (sem 𝓤 H A (Own h))) (sep 𝓤 (StepAt 𝓤 H A at-mem run .pre to) (sem 𝓤 H A (Own h)))
   gives g =
       qed W ((‵ (flft κ′ q′) ⊛ ‵ ftrue) ∷ ‵ (Own h) ∷ []) ∵ move ! (1 ∷ []) $ use1 W (‵ (Own h) ⊛ ‵ (Own h)) (LL.copy D (T′.the-copy (α κ′)) 𝓤 H A W .twice h (T′.lowered h ∷ [])) $ split ! $
-      use1 W (given (T′.lowered h ∷ [] ≡ T′.lowered h ∷ []) (‵ (all-own (D .parts) L vd))) (own-open 𝓤 H A W D L vd (T′.lowered h)) $ learn ! (λ _. use1 W (‵ (ownAt (D .parts) L 0 (h .card)) ⊛ ‵ (rest (D .parts) L 0 vd)) (own-out 𝓤 H A W (D .parts) L 0 vd) $ split ! $
-      -- [what card owns; what at owns; what the reader owns; the token]
+      use1 W (given (T′.lowered h ∷ [] ≡ T′.lowered h ∷ []) (‵ (all-own (D .parts) L vd))) (own-open 𝓤 H A W D L vd (T′.lowered h)) $ learn ! (λ _. use1 W (‵ (ownAt (D .parts) L 1 (h .card)) ⊛ ‵ (rest (D .parts) L 1 vd)) (own-out 𝓤 H A W (D .parts) L 1 vd) $ split ! $
+      -- [what card owns; what the other fields own; what the reader owns; the token]
       move ! (1 ∷ []) $ drop ! $ nothing ! $ owned ! Cur.the-row (Is Cur.the-row) ((LL.makes Cur.the-type Cur′.the-plain) 𝓤 H A) (h .cursor) _ g $ fjoin ! $ move ! (1 ∷ 0 ∷ []) $ fjoin ! $ move ! (2 ∷ 0 ∷ []) $ join ! $
       use1 W (raw (StepAt 𝓤 H A at-mem run .pre to)) (qed W ((‵ (flft κ′ q′) ⊛ ‵ ftrue) ∷ ‵ (owns (ShrSlice (named 0) κ′ u32 ∷ Cur.the-row ∷ []) (h .card, (h .cursor, tt)) (sliceVal (h .card .ptr) (length (h .card .now)) ∷ [], (Cur′.lowered (h .cursor) ∷ [], tt))) ∷ []) ∵ join ! $ frame ! $ done !) $ frame ! $ done !)
 
@@ -135,7 +135,7 @@ module _ {M : Type 1} (𝓤 : URA M) (H : Heap 𝓤) (A : Atoms 𝓤) (W : Given
 
   -- what card owns is kept, and the new cursor's facts are put in
   again : (c : Cursor) → Is Cur.the-row c (Cur′.lowered c ∷ []) → ent 𝓤 (sem 𝓤 H A (Own h)) (sem 𝓤 H A (Own (h′ c)))
-  again c g = qed W (‵ (Own h) ∷ []) ∵ owned ! Cur.the-row (Is Cur.the-row) ((LL.makes Cur.the-type Cur′.the-plain) 𝓤 H A) c _ g $ move ! (1 ∷ 0 ∷ []) $ by ! (own-put 𝓤 H A W D L 1 vd c (T′.lowered h))
+  again c g = qed W (‵ (Own h) ∷ []) ∵ owned ! Cur.the-row (Is Cur.the-row) ((LL.makes Cur.the-type Cur′.the-plain) 𝓤 H A) c _ g $ move ! (1 ∷ 0 ∷ []) $ by ! (own-put 𝓤 H A W D L 2 vd c (T′.lowered h))
 
   module _ (C : Calls 𝓤 H) (Λ : Loops 𝓤 H) (fm : FmC 𝓤 H (W .laws) C) (known : Triple 𝓤 (C #step-at) (StepAt 𝓤 H A at-mem run)) where
     walk : ent 𝓤 (onEntry 𝓤 H A F.signature (κ, (κ′, tt)) (q, (q′, tt)) x at) (WpFn 𝓤 H C Λ code.function (vptr b o ∷ []) Post)
@@ -146,11 +146,11 @@ module _ {M : Type 1} (𝓤 : URA M) (H : Heap 𝓤) (A : Atoms 𝓤) (W : Given
         opens ! tt (B κ′) {h = h} b o (λ vs. spelt ! (B κ′) (Is (B κ′)) (shows 𝓤 H A (B κ′)) (LL.vals D L) (LL.tells D L) fullShare h vs b o $
         move ! (1 ∷ []) $ peeks ! (B κ′) (Is (B κ′)) (shows 𝓤 H A (B κ′)) h (T′.lowered h ∷ []) (λ was. move ! (1 ∷ 0 ∷ []) $
         let wt = LL.lawful D L 𝓤 H A W .typed h _ was .0 in
-        let isc = LL.owed D L h _ was .1 .0 in
+        let isc = LL.owed D L h _ was .1 .1 .0 in
         use1 W (‵ (fat fullShare (T′.mir erased) b o (T′.lowered h))) (W .laws .raw-at fullShare (T′.mir erased) b o (T′.lowered h)) $
         -- [the struct's cell; what a reader owns; the open borrow; obs; auth; 'a's token; true; _4; …; _3; …; _2; …; _1; …; room for _0; …]
-        assigns ! (of-opd ! (load ! (from ! (hop ! (look ! 13 refl) (fld ! refl (stop !)))) (look-in ! 0 (sub ! 0 refl (whole !))))) (from ! (stop !)) (init ! 9 refl (tt, wt .1 .0)) $
-        assigns ! (of-opd ! (load ! (from ! (hop ! (look ! 13 refl) (fld ! refl (stop !)))) (look-in ! 0 (sub ! 1 refl (whole !))))) (from ! (stop !)) (init ! 7 refl (tt, wt .1 .1 .0)) $
+        assigns ! (of-opd ! (load ! (from ! (hop ! (look ! 13 refl) (fld ! refl (stop !)))) (look-in ! 0 (sub ! 1 refl (whole !))))) (from ! (stop !)) (init ! 9 refl (tt, wt .1 .1 .0)) $
+        assigns ! (of-opd ! (load ! (from ! (hop ! (look ! 13 refl) (fld ! refl (stop !)))) (look-in ! 0 (sub ! 2 refl (whole !))))) (from ! (stop !)) (init ! 7 refl (tt, wt .1 .1 .1 .0)) $
         move ! (5 ∷ 1 ∷ []) $ use2 W (raw (StepAt 𝓤 H A at-mem run .pre to) ⊛ ‵ (Own h)) (gives isc) $ split ! $
         calls-at ! fm (StepAt 𝓤 H A at-mem run) known to (and-then ! (load ! (from ! (stop !)) (look ! 9 refl)) (and-then ! (load ! (from ! (stop !)) (look ! 7 refl)) (no-more !))) (λ u.
         use1 W (later (some (λ (r : Step). ((‵ (flft κ′ q′) ⊛ ‵ ftrue) ⊛ ‵ (St.the-row .own r (u ∷ []))) ⊛ raw (ensured 𝓤 H A stp.ended (stp.clauses 𝓤 H A at-mem run) (κ′, tt) (h .card, (h .cursor, tt)) tt r)))) (id⊢ 𝓤 _) $ await ! tt $ pick ! (λ r.
@@ -162,7 +162,7 @@ module _ {M : Type 1} (𝓤 : URA M) (H : Heap 𝓤) (A : Atoms 𝓤) (W : Given
         let wr = LL.lawful St.the-type St′.the-laws 𝓤 H A W .typed r _ is′ .0 in
         let parts = LL.owed St.the-type St′.the-laws r _ is′ in
         land ! (from ! (stop !)) (init ! 12 refl (LL.lawful St.the-type St′.the-laws 𝓤 H A W .typed r _ is .0)) $ rewrite ! 12 (λ (w : Val). ‵ (fat fullShare St′.mir l₂ 0 w)) (ap only eq) refl $
-        assigns ! (of-opd ! (load ! (from ! (fld ! refl (stop !))) (look-in ! 12 (sub ! 1 refl (whole !))))) (from ! (hop ! (look ! 14 refl) (fld ! refl (stop !)))) (store-in ! 3 (sub ! 1 refl (whole !)) (tt, wr .1 .1 .0)) $
+        assigns ! (of-opd ! (load ! (from ! (fld ! refl (stop !))) (look-in ! 12 (sub ! 1 refl (whole !))))) (from ! (hop ! (look ! 14 refl) (fld ! refl (stop !)))) (store-in ! 3 (sub ! 2 refl (whole !)) (tt, wr .1 .1 .0)) $
         assigns ! (of-opd ! (load ! (from ! (fld ! refl (stop !))) (look-in ! 12 (sub ! 0 refl (whole !))))) (from ! (stop !)) (init ! 16 refl (EL.lawful Y.the-type Y′.the-laws 𝓤 H A W tt .typed (r .yielded) _ (parts .0) .0)) $
         move ! (3 ∷ []) $ use1 W (‵ (cellAt fullShare (B κ′ .mir) (T′.lowered (h′ (r .cursor)) ∷ []) b o)) (W .laws .at-raw fullShare (T′.mir erased) b o (T′.lowered (h′ (r .cursor)))) $
         move ! (3 ∷ []) $ use1 W (‵ (Own (h′ (r .cursor)))) (again (r .cursor) (parts .1 .0)) $ move ! (1 ∷ 0 ∷ 4 ∷ 5 ∷ 6 ∷ []) $ closes ! tt (B κ′) (h′ (r .cursor)) (T′.lowered (h′ (r .cursor)) ∷ []) b o $
@@ -185,4 +185,4 @@ next-spec 𝓤 H 𝓜 𝓖 𝓡 =
     entered 𝓤 H (tripleOf 𝓤 H (𝓖 .A) F.signature (F.spec 𝓤 H (𝓖 .A) (𝓜 .mem) (𝓡 .run)))
     (tables 𝓤 H 𝓜 𝓡 code.env .C) (tables 𝓤 H 𝓜 𝓡 code.env .Λ) #me code.function (code.unfolded 𝓤 H 𝓜 𝓡)
     (meets 𝓤 H (𝓖 .A) (givenOf 𝓤 H 𝓜 𝓖) (𝓜 .mem) (𝓡 .run) (tablesOf 𝓤 H 𝓜 (tables 𝓤 H 𝓜 𝓡 code.env))
-    (cited 𝓤 H (StepAt 𝓤 H (𝓖 .A) (𝓜 .mem) (𝓡 .run)) 𝓜 𝓡 code.env #step-at stp-def.routine code.calls-lookup·reading·step-at (stp-thm.met 𝓤 H 𝓜 𝓖 𝓡)))
+    (cited 𝓤 H (StepAt 𝓤 H (𝓖 .A) (𝓜 .mem) (𝓡 .run)) 𝓜 𝓡 code.env #step-at stp-def.routine code.calls-reader·cursor·step-at (stp-thm.met 𝓤 H 𝓜 𝓖 𝓡)))

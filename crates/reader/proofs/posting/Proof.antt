@@ -40,18 +40,19 @@ use denote.Triple.Spec.{Meets, tripleOf}
 use denote.Triple.Table.{entered, cited}
 use denote.Triple.Walked.{says, Stays, stay-none, stay-none-slice, walkOf, goes-none, goes-none-slice, Walks, ends-at, walked, walk-meets}
 use denote.Exit.{yes}
-use Rattle.lookup.specs.Found.{yielded}
-use Rattle.lookup.specs.Reading.{Stands, yieldOf, Later}
-use Rattle.lookup.specs.declared.reading.Cursor.{Cursor}
-use Rattle.lookup.specs.declared.reading.Yield.{Yield}
-use Rattle.lookup.proofs.reading.Cursor as Cur
-use Rattle.lookup.proofs.reading.Cursor.Laws as Cur′
-use Rattle.lookup.proofs.reading.Yield as Y
-use Rattle.lookup.proofs.reading.Yield.Laws as Y′
-use Rattle.lookup.proofs.reading.yield_at as yld
-use Rattle.lookup.proofs.reading.yield_at.Symbol as yld-def
-use Rattle.lookup.proofs.reading.yield_at.Symbol.{name as #yield-at}
-use Rattle.lookup.proofs.reading.yield_at.Met as yld-thm
+use Rattle.lookup.specs.Found.{questionNumber}
+use Rattle.reader.specs.Reader.{yielded, yieldOf}
+use Rattle.reader.specs.Cursor.{Stands, Later}
+use Rattle.reader.specs.declared.Yield.{Yield}
+use Rattle.reader.specs.declared.cursor.Cursor.{Cursor}
+use Rattle.reader.proofs.cursor.Cursor as Cur
+use Rattle.reader.proofs.cursor.Cursor.Laws as Cur′
+use Rattle.reader.proofs.Yield as Y
+use Rattle.reader.proofs.Yield.Laws as Y′
+use Rattle.reader.proofs.cursor.yield_at as yld
+use Rattle.reader.proofs.cursor.yield_at.Symbol as yld-def
+use Rattle.reader.proofs.cursor.yield_at.Symbol.{name as #yield-at}
+use Rattle.reader.proofs.cursor.yield_at.Met as yld-thm
 use Rattle.reader.specs.declared.PostingReader.{PostingReader}
 use Rattle.reader.proofs.PostingReader as T
 use Rattle.reader.proofs.PostingReader.Laws as T′
@@ -85,8 +86,9 @@ module _ {M : Type 1} (𝓤 : URA M) (H : Heap 𝓤) (A : Atoms 𝓤) (W : Given
   abbrev v : Val
   v = sliceVal (s .ptr) (length (s .now))
 
-  abbrev made : Cursor → PostingReader
-  made k = record { card = s; cursor = k }
+  -- the reader with s for its slice
+  abbrev made : PostingReader → PostingReader
+  made r = record { number = r .number; card = s; cursor = r .cursor }
 
   abbrev args : RefT (List ℕ) × (ℕ × (ℕ × (ℕ × (ℕ × Unit {0}))))
   args = (s, (t, (a, (z, (n, tt)))))
@@ -119,7 +121,7 @@ module _ {M : Type 1} (𝓤 : URA M) (H : Heap 𝓤) (A : Atoms 𝓤) (W : Given
       move ! (1 ∷ 0 ∷ []) $ fjoin ! $ move ! (2 ∷ 0 ∷ []) $ use2 W (raw (Open 𝓤 H A mem run .pre to-open)) (qed W ((‵ (flft κ q) ⊛ ‵ ftrue) ∷ ‵ (owns (ShrSlice (named 0) κ u32 ∷ u32 ∷ u32 ∷ u32 ∷ []) asking asking-at) ∷ []) ∵ join ! $ frame ! $ done !) $ frame ! $ done !
 
   abbrev Opened : PostingReader → Type 0
-  Opened r = (r .card ≡ s) × Stands (now s) t a z 0 (r .cursor)
+  Opened r = (r .number ≡ questionNumber (now s) t a z) × (r .card ≡ s) × Stands (now s) t a z 0 (r .cursor)
 
   open-said : (r : PostingReader) → ent 𝓤 (ensured 𝓤 H A opn.ended (opn.clauses 𝓤 H A mem run) (κ, tt) asking tt r) (fact 𝓤 (Opened r))
   open-said r = exE 𝓤 _ (λ ws. snd∗ 𝓤 (sem 𝓤 H A (lasts opn.ended (κ, tt) asking ws)) (fact 𝓤 (Opened r)))
@@ -163,16 +165,16 @@ module _ {M : Type 1} (𝓤 : URA M) (H : Heap 𝓤) (A : Atoms 𝓤) (W : Given
         move ! (18 ∷ []) $ use1 W (raw (Open 𝓤 H A mem run .pre to-open) ⊛ ‵ Own) goes-open $ split ! $
         calls-at ! fm (Open 𝓤 H A mem run) known-open to-open (and-then ! (load ! (from ! (stop !)) (look ! 16 refl)) (and-then ! (load ! (from ! (stop !)) (look ! 14 refl)) (and-then ! (load ! (from ! (stop !)) (look ! 12 refl)) (and-then ! (load ! (from ! (stop !)) (look ! 10 refl)) (no-more !))))) (λ u.
         use1 W (later (some (λ (r : PostingReader). ((‵ (flft κ q) ⊛ ‵ ftrue) ⊛ ‵ (T.the-row α .own r (u ∷ []))) ⊛ raw (ensured 𝓤 H A opn.ended (opn.clauses 𝓤 H A mem run) (κ, tt) asking tt r)))) (id⊢ 𝓤 _) $ await ! tt $ pick ! (λ r.
-        split ! $ move ! (1 ∷ []) $ use1 W (raw (fact 𝓤 (Opened r))) (open-said r) $ heard ! (Opened r) (λ e. split ! $ rewrite ! 1 (λ (h : PostingReader). ‵ (T.the-row α .own h (u ∷ []))) (λ i. record { card = e .0 i; cursor = r .cursor }) refl $ move ! (1 ∷ []) $
+        split ! $ move ! (1 ∷ []) $ use1 W (raw (fact 𝓤 (Opened r))) (open-said r) $ heard ! (Opened r) (λ e. split ! $ rewrite ! 1 (λ (h : PostingReader). ‵ (T.the-row α .own h (u ∷ []))) (λ i. record { number = r .number; card = e .1 i; cursor = r .cursor }) refl $ move ! (1 ∷ []) $
         -- [what the reader owns; the token; what card owns; room for _8; …; _7; …; _6; …; _5; …; _4; …; _3; …; _2; …; _1; …; room for _0; …]
-        peeks ! (T.the-row α) (Is (T.the-row α)) (shows 𝓤 H A (T.the-row α)) (made (r .cursor)) (u ∷ []) (λ is.
-        let eq = LL.tells (T.the-type α) (T′.the-laws α) (made (r .cursor)) (u ∷ []) is in
-        let is′ = subst (Is (T.the-row α) (made (r .cursor))) eq is in
-        let wt = LL.lawful (T.the-type αᵉ) (T′.the-laws αᵉ) 𝓤 H A W .typed (made (r .cursor)) _ is′ .0 in
-        let isc = LL.owed (T.the-type α) (T′.the-laws α) (made (r .cursor)) _ is′ .1 .0 in
-        land ! (from ! (stop !)) (init ! 7 refl (LL.lawful (T.the-type αᵉ) (T′.the-laws αᵉ) 𝓤 H A W .typed (made (r .cursor)) _ is .0)) $ rewrite ! 7 (λ (w : Val). ‵ (fat fullShare (T′.mir erased) l₆ 0 w)) (ap only eq) refl $
-        assigns ! (of-opd ! (load ! (from ! (fld ! refl (stop !))) (look-in ! 7 (sub ! 0 refl (whole !))))) (from ! (stop !)) (init ! 5 refl (tt, wt .1 .0)) $
-        assigns ! (of-opd ! (load ! (from ! (fld ! refl (stop !))) (look-in ! 7 (sub ! 1 refl (whole !))))) (from ! (stop !)) (init ! 3 refl (tt, wt .1 .1 .0)) $
+        peeks ! (T.the-row α) (Is (T.the-row α)) (shows 𝓤 H A (T.the-row α)) (made r) (u ∷ []) (λ is.
+        let eq = LL.tells (T.the-type α) (T′.the-laws α) (made r) (u ∷ []) is in
+        let is′ = subst (Is (T.the-row α) (made r)) eq is in
+        let wt = LL.lawful (T.the-type αᵉ) (T′.the-laws αᵉ) 𝓤 H A W .typed (made r) _ is′ .0 in
+        let isc = LL.owed (T.the-type α) (T′.the-laws α) (made r) _ is′ .1 .1 .0 in
+        land ! (from ! (stop !)) (init ! 7 refl (LL.lawful (T.the-type αᵉ) (T′.the-laws αᵉ) 𝓤 H A W .typed (made r) _ is .0)) $ rewrite ! 7 (λ (w : Val). ‵ (fat fullShare (T′.mir erased) l₆ 0 w)) (ap only eq) refl $
+        assigns ! (of-opd ! (load ! (from ! (fld ! refl (stop !))) (look-in ! 7 (sub ! 1 refl (whole !))))) (from ! (stop !)) (init ! 5 refl (tt, wt .1 .1 .0)) $
+        assigns ! (of-opd ! (load ! (from ! (fld ! refl (stop !))) (look-in ! 7 (sub ! 2 refl (whole !))))) (from ! (stop !)) (init ! 3 refl (tt, wt .1 .1 .1 .0)) $
         drop ! $ use2 W (raw (YieldAt 𝓤 H A mem run .pre (to-yield (r .cursor))) ⊛ ‵ Own) (goes-yield (r .cursor) isc) $ split ! $
         calls-at ! fm (YieldAt 𝓤 H A mem run) known-yield (to-yield (r .cursor)) (and-then ! (load ! (from ! (stop !)) (look ! 4 refl)) (and-then ! (load ! (from ! (stop !)) (look ! 2 refl)) (and-then ! (load ! (from ! (stop !)) (look ! 8 refl)) (no-more !)))) (λ u′.
         use1 W (later (some (λ (y : Yield). ((‵ (flft κ q) ⊛ ‵ ftrue) ⊛ ‵ (Y.the-row .own y (u′ ∷ []))) ⊛ raw (ensured 𝓤 H A yld.ended (yld.clauses 𝓤 H A mem run) (κ, tt) (s, (r .cursor, (n, tt))) tt y)))) (id⊢ 𝓤 _) $ await ! tt $ pick ! (λ y.
@@ -182,7 +184,7 @@ module _ {M : Type 1} (𝓤 : URA M) (H : Heap 𝓤) (A : Atoms 𝓤) (W : Given
         land ! (from ! (stop !)) (init ! 19 refl (EL.lawful Y.the-type Y′.the-laws 𝓤 H A W tt .typed y _ isy .0)) $
         returns ! (look ! 19 refl) $ forget ! 3 refl $ forget ! 5 refl $ forget ! 7 refl $ forget ! 9 refl $ forget ! 11 refl $ forget ! 13 refl $ forget ! 15 refl $ forget ! 17 refl $ forget ! 19 refl $
         move ! (19 ∷ 20 ∷ []) $ free1 ! $ move ! (17 ∷ 18 ∷ []) $ free1 ! $ move ! (15 ∷ 16 ∷ []) $ free1 ! $ move ! (13 ∷ 14 ∷ []) $ free1 ! $ move ! (11 ∷ 12 ∷ []) $ free1 ! $ move ! (9 ∷ 10 ∷ []) $ free1 ! $ move ! (7 ∷ 8 ∷ []) $ free1 ! $ move ! (5 ∷ 6 ∷ []) $ free1 ! $ move ! (3 ∷ 4 ∷ []) $ free1 ! $ free0 ! $
-        by ! (exits y u′ (e′ .yields t a z 0 (e .1) ∙ ap (yielded (now s) t a z) from-none)))))))))))))))))))
+        by ! (exits y u′ (e′ .yields t a z 0 (e .2) ∙ ap (yielded (now s) t a z) from-none)))))))))))))))))))
 
 module _ {M : Type 1} (𝓤 : URA M) (H : Heap 𝓤) (A : Atoms 𝓤) (W : Given 𝓤 H A) (mem : Memory → SProp 𝓤) (run : Routine → Fun 𝓤) (𝓣 : Tables 𝓤 H) (known-open : Triple 𝓤 (𝓣 .C #open) (Open 𝓤 H A mem run)) (known-yield : Triple 𝓤 (𝓣 .C #yield-at) (YieldAt 𝓤 H A mem run)) where
   walks : Walks 𝓤 H A F.ended stayed (WpFn 𝓤 H (𝓣 .C) (𝓣 .Λ) code.function) (F.clauses 𝓤 H A mem run)
@@ -199,4 +201,4 @@ posting-spec 𝓤 H 𝓜 𝓖 𝓡 =
     (tables 𝓤 H 𝓜 𝓡 code.env .C) (tables 𝓤 H 𝓜 𝓡 code.env .Λ) #me code.function (code.unfolded 𝓤 H 𝓜 𝓡)
     (meets 𝓤 H (𝓖 .A) (givenOf 𝓤 H 𝓜 𝓖) (𝓜 .mem) (𝓡 .run) (tablesOf 𝓤 H 𝓜 (tables 𝓤 H 𝓜 𝓡 code.env))
     (cited 𝓤 H (Open 𝓤 H (𝓖 .A) (𝓜 .mem) (𝓡 .run)) 𝓜 𝓡 code.env #open opn-def.routine code.calls-reader·open (opn-thm.met 𝓤 H 𝓜 𝓖 𝓡))
-    (cited 𝓤 H (YieldAt 𝓤 H (𝓖 .A) (𝓜 .mem) (𝓡 .run)) 𝓜 𝓡 code.env #yield-at yld-def.routine code.calls-lookup·reading·yield-at (yld-thm.met 𝓤 H 𝓜 𝓖 𝓡)))
+    (cited 𝓤 H (YieldAt 𝓤 H (𝓖 .A) (𝓜 .mem) (𝓡 .run)) 𝓜 𝓡 code.env #yield-at yld-def.routine code.calls-reader·cursor·yield-at (yld-thm.met 𝓤 H 𝓜 𝓖 𝓡)))

@@ -17,7 +17,7 @@ use Rattle.card.proofs.Judging.{place-part}
 use Rattle.update.specs.Answer.{freedBy, configurationOf}
 use Rattle.update.specs.Step.{duePlace}
 use Rattle.card.proofs.Parts.{place-inside}
-use Rattle.update.proofs.Outcome.{answered-as, refusal, outcome-none, outcome-crowded, outcome-block, outcome-entry, outcome-settled, entry-same, sets-entry}
+use Rattle.update.proofs.Outcome.{answered-as, refusal, answer-refused, answer-block, answer-entry, outcome-none, outcome-crowded, outcome-block, outcome-entry, outcome-settled, entry-same, sets-entry}
 use Rattle.update.proofs.Skipping.{shape, eight}
 use borrow.Author.Needs.{needs}
 use Rattle.update.proofs.advance.Statement.{statement}
@@ -109,7 +109,7 @@ same-length-2 c = search needs
 returns-2 : tie.Need-returns-2
 returns-2 c =
     let s = c .before .before .before .before .before .before .before .before .before .before in
-    answered-as {s = refusal (W s) 8} (record { number = refl; write = refl; freed = refl; finished = refl; card = refl })
+    answered-as {s = refusal (W s) 8} (answer-refused (W s) 8 (λ z. absurd (omega arith)), refl)
     (sym (outcome-crowded (W s) (K s) (s .args .due) (c .before .if1 .left) (rw (c .before .before .before .freed .ensures .0) at (c .if2 .taken))))
 
 slice-read-place : tie.Need-slice-read-place
@@ -158,13 +158,7 @@ returns-3 : tie.Need-returns-3
 returns-3 c =
     let s = c .before .before .before .before .before .before .before .before .before .before .before .before .before .before .before .before .before .before .before .before .before in
     answered-as
-    (record {
-      number = refl;
-      write = refl;
-      freed = refl;
-      finished = refl;
-      card = c .before .before .write .ensures ∙ ap (λ (n : ℕ). sets (W s) n (K s)) (c .before .before .before .before .before .before .before .before .place-start .ensures ∙ at-due s);
-    })
+    (answer-block _, c .before .before .write .ensures ∙ ap (λ (n : ℕ). sets (W s) n (K s)) (c .before .before .before .before .before .before .before .before .place-start .ensures ∙ at-due s))
     (sym (outcome-block (W s) (K s) (s .args .due) (c .before .before .before .before .before .before .before .before .before .before .before .before .if1 .left) (roomy (c .before .before .before .before .before .before .before .before .before .before .before)) (sym (compared (c .before .before .before .before .before)) ∙ not-true _ (c .before .before .before .before .if3 .taken))))
 
 mul-entry : tie.Need-mul-entry
@@ -216,13 +210,7 @@ returns-4 : tie.Need-returns-4
 returns-4 c =
     let s = c .before .before .before .before .before .before .before .before .before .before .before .before .before .before .before .before .before .before .before .before .before .before in
     answered-as
-    (record {
-      number = refl;
-      write = refl;
-      freed = refl;
-      finished = refl;
-      card = sets-entry (W s) (entryAt entryWidth (I s)) (getD (K s) 0 0) (getD (K s) 2 0) ∙ ap (λ (n : ℕ). sets (W s) (entryAt entryWidth n) (getD (K s) 0 0 ∷ getD (K s) 2 0 ∷ [])) (due-at s);
-    })
+    (answer-entry _, sets-entry (W s) (entryAt entryWidth (I s)) (getD (K s) 0 0) (getD (K s) 2 0) ∙ ap (λ (n : ℕ). sets (W s) (entryAt entryWidth n) (getD (K s) 0 0 ∷ getD (K s) 2 0 ∷ [])) (due-at s))
     (sym (outcome-entry (W s) (K s) (s .args .due) (c .before .before .before .before .before .before .before .before .before .before .before .before .before .if1 .left) (roomy (c .before .before .before .before .before .before .before .before .before .before .before .before)) (sym (compared (c .before .before .before .before .before .before)) ∙ not-false _ (c .before .before .before .before .before .if3 .left)) (entry-compared s ∙ not-true _ (c .if4 .taken))))
 
 add-settle : tie.Need-add-settle

@@ -4,7 +4,7 @@ use mathlib.Core.Bool.{true, false}
 use native.Mathlib.Omega.{arith}
 use mathlib.Core.Path.{refl}
 use Rattle.card.proofs.Facts.{facts}
-use Rattle.update.specs.Answer.{configurationOf}
+use Rattle.update.specs.Answer.{answerOf, configurationOf}
 use Rattle.update.proofs.Skipping.{eight}
 use borrow.Author.Needs.{needs}
 use Rattle.update.proofs.settle.Statement.{statement}
@@ -29,10 +29,10 @@ same-length : tie.Need-same-length
 same-length c = search needs
 
 returns : tie.Need-returns
-unfolding configurationOf
+unfolding answerOf configurationOf
 returns c =
     let e : c .before .before .before .before .before .before .before .before .args .due .more ≡ true = c .before .before .before .before .if1 .taken in
-    record { number = refl; write = refl; freed = refl; finished = rw e; card = c .before .before .configure .ensures ∙ rw e }
+    (rw e, c .before .before .configure .ensures ∙ rw e)
 
 configure-requires-2 : tie.Need-configure-requires-2
 configure-requires-2 c κs = search needs
@@ -41,10 +41,10 @@ same-length-2 : tie.Need-same-length-2
 same-length-2 c = search needs
 
 returns-2 : tie.Need-returns-2
-unfolding configurationOf
+unfolding answerOf configurationOf
 returns-2 c =
     let e : c .before .before .before .before .before .before .before .before .args .due .more ≡ false = c .before .before .before .before .if1 .left in
-    record { number = refl; write = refl; freed = refl; finished = rw e; card = c .before .before .configure2 .ensures ∙ rw e }
+    (rw e, c .before .before .configure2 .ensures ∙ rw e)
 
 pub settle-spec : {M : Type 1} → statement M
 settle-spec =

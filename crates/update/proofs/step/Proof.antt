@@ -16,7 +16,7 @@ use Rattle.update.specs.Answer.{outcome}
 use Rattle.update.specs.Step.{remains, dueBlock}
 use Rattle.update.proofs.Grown.{Remaining}
 use Rattle.update.proofs.Next.{remaining}
-use Rattle.update.proofs.Outcome.{answered-as, refusal, outcome-taken, step-sound, step-judged, step-unordered, buffer-count, buffer-zeros, front-inside, front-count}
+use Rattle.update.proofs.Outcome.{answered-as, refusal, answer-refused, outcome-taken, step-sound, step-judged, step-unordered, buffer-count, buffer-zeros, front-inside, front-count}
 use Rattle.update.proofs.Skipping.{eight}
 use borrow.Author.Needs.{needs}
 use Rattle.update.proofs.step.Statement.{statement}
@@ -64,7 +64,7 @@ returns : tie.Need-returns
 returns c =
     let s = c .before .before .before .before .before in
     let w = now (s .args .card) in
-    answered-as {s = refusal w (c .before .judge .result)} (record { number = refl; write = refl; freed = refl; finished = refl; card = refl })
+    answered-as {s = refusal w (c .before .judge .result)} (answer-refused w _ (c .if1 .taken), refl)
     (ap (refusal w) (c .before .judge .ensures) ∙ sym (step-judged w (now (s .args .batch)) (λ z. c .if1 .taken (c .before .judge .ensures ∙ z))))
 
 batch-number-requires : tie.Need-batch-number-requires
@@ -78,7 +78,7 @@ returns-2 c =
     let s = c .before .before .before .before .before .before .before in
     let w = now (s .args .card) in
     let e = c .before .before in
-    answered-as {s = refusal w (c .before .batch-number .result)} (record { number = refl; write = refl; freed = refl; finished = refl; card = refl })
+    answered-as {s = refusal w (c .before .batch-number .result)} (answer-refused w _ (c .if2 .taken), refl)
     (ap (refusal w) (c .before .batch-number .ensures)
     ∙ sym (step-unordered w (now (s .args .batch)) (sym (e .before .judge .ensures) ∙ e .if1 .left) (λ z. c .if2 .taken (c .before .batch-number .ensures ∙ z))))
 

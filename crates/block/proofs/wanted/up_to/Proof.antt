@@ -1,5 +1,6 @@
 -- `block::wanted::up_to` meets its contract: a search by halving.
 use Prim.Native.Nat.{_-_}
+use mathlib.Core.Path.{_≡_}
 use Rattle.pair.proofs.Search.{Halved, halved-start, halved-up, halved-down, halved-end}
 use native.Mathlib.Omega.{arith}
 use borrow.Author.Needs.{needs}
@@ -44,9 +45,13 @@ loop-again-2 c = halved-down (c .before .before .before .loop .inv) (omega arith
 
 returns : tie.Need-returns Inv-loop μ-loop
 returns c =
+    let h = c .before .loop .inv in
+    let e : c .before .loop .high ≡ c .before .loop .low = omega (arith, h .order, c .loop-test .left) in
     record {
       inside = search needs;
-      count = halved-end (c .before .loop .inv) (c .loop-test .left);
+      below = h .below;
+      beyond = rw e at (h .beyond);
+      count = halved-end h (c .loop-test .left);
     }
 
 pub up-to-spec : {M : Type 1} → statement M

@@ -1,0 +1,6 @@
+pub mod Computed
+pub mod Cuts
+pub mod Demand3
+pub mod Lookups
+pub mod Passes
+pub mod Witnesses

@@ -1,0 +1,1 @@
+// Every claim once more, its statement written out; no code.

@@ -1,0 +1,66 @@
+# A part of host.sh: standard streams that are closed, and output that cannot be written.
+
+# the command with those of the streams 0, 1 and 2 closed that are named
+closed() { # STREAMS COMMAND..
+    (
+        case $1 in *0*) exec <&- ;; esac
+        case $1 in *1*) exec >&- ;; esac
+        case $1 in *2*) exec 2>&- ;; esac
+        exec "${@:2}"
+    )
+}
+full() { "$program" "$@" >/dev/full; }
+
+lay() { # CARD: stream.card is the card, or is not there
+    rm -f stream.card
+    if [ -n "$1" ]; then cp "$1" stream.card; fi
+}
+lies() { # CARD: stream.card is still the card, or not there
+    if [ -n "$1" ]; then cmp -s stream.card "$1"; else [ ! -e stream.card ]; fi
+}
+
+# A command makes of the card what it makes with all streams open, and where
+# standard output is closed or full its exit status is 2, as it had something to
+# show. A batch from a standard input that is closed is none: the card stands.
+# Output is written at the end or, as stdbuf has it, line by line.
+streams() { # STATUS CARD COMMAND..: the exit status with all streams open, the card before the command, its words
+    local status=$1 card=$2 words=("${@:3}") made='' names
+    lay "$card"
+    run "$status" "${words[*]}" "${words[@]}" <one.batch
+    if [ -e stream.card ]; then mv stream.card made.card && made=made.card; fi
+    for names in '' 0 1 2 01 02 12 012; do
+        close_streams "$names" "$program"
+        close_streams "$names" stdbuf -oL "$program"
+    done
+    lay "$card"
+    expect 2 "${words[*]}, full" full "${words[@]}" <one.batch
+    check "${words[*]}, full: the card" lies "$made"
+    check "${words[*]}, full: it says so" grep -Eq 'standard output: |no such|usage' err
+}
+close_streams() { # STREAMS PROGRAM..: one run of the command, with these closed
+    local names=$1 expected=$status after=$made
+    local what="${words[*]}, closed: ${names:-none}"
+    case $names in *1*) expected=2 ;; esac
+    case ${words[-1]}$names in -0*) expected=2 after=$card ;; esac
+    lay "$card"
+    expect "$expected" "$what" closed "$@" "${words[@]}" <one.batch
+    check "$what: the card" lies "$after"
+    case $names in 1 | 01) check "$what: it says so" grep -Eq 'standard (in|out)put: |no such|usage' err ;; esac
+}
+
+cp case1.card kept.card
+streams 0 '' format stream.card 8 4
+streams 0 used.card format stream.card 8 4
+streams 1 kept.card format stream.card 8 5
+streams 0 kept.card judge stream.card
+streams 1 live.card judge stream.card
+streams 0 kept.card show stream.card
+streams 0 kept.card lookup stream.card 5
+streams 1 kept.card lookup stream.card 0
+streams 0 kept.card apply stream.card more.batch
+streams 0 new.card apply stream.card -
+streams 1 kept.card apply stream.card order.batch
+streams 2 kept.card apply stream.card 'no such.batch'
+streams 2 kept.card frobnicate stream.card
+expect 2 'help, closed: 1' closed 1 "$program" help
+expect 2 'help, full' full help
