@@ -26,7 +26,7 @@ seen-once false false false false = refl
 returns : tie.Need-returns
 unfolding illFormed
 returns c =
-    let s = c .before .before .args in
+    let s = c .before .before .args .u in
     let first = c .before .is-pair .ensures ∙ isPair-word (s .term) (s .from) (omega arith) (omega arith) in
     let last = c .is-pair2 .ensures ∙ isPair-word (s .term) (s .to) (omega arith) (omega arith) in
     rw (first, last, seen-once)
