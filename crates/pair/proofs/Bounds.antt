@@ -4,7 +4,7 @@ use mathlib.Core.Path.{_≡_, refl}
 use mathlib.Core.Bool.{Bool, true, false, _&&_, _||_, not, and-true}
 use native.Mathlib.Omega.{arith}
 use lib.Dec.{ltb, leb, eqb}
-use borrow.Author.Tests.{le-leb, lt-leb, lt-ltb, le-ltb, eqb-true, eqb-false}
+use borrow.Author.Tests.{le-leb, lt-ltb, le-ltb, eqb-true, eqb-false}
 use Rattle.pair.specs.Bounds.{isPair}
 
 -- no 32-bit word is above those of the highest pair

@@ -1,8 +1,7 @@
 -- `batch::ill_formed` meets its contract: of 32-bit words, those that are no pair have a 0 among them.
-use mathlib.Core.Path.{_≡_, refl, ap, _∙_}
+use mathlib.Core.Path.{_≡_, refl, _∙_}
 use mathlib.Core.Bool.{Bool, true, false, _||_, not}
 use native.Mathlib.Omega.{arith}
-use lib.Dec.{eqb}
 use Rattle.pair.proofs.Bounds.{isPair-word}
 use Rattle.batch.specs.Batch.{illFormed}
 use borrow.Author.Needs.{needs}

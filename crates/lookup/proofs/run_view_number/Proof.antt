@@ -1,8 +1,6 @@
 -- `lookup::run_view_number` meets its contract: the judge's number, then that of the question.
-use mathlib.Core.Path.{_≡_, _∙_}
-use mathlib.Core.Bool.{_||_}
+use mathlib.Core.Path.{_∙_}
 use native.Mathlib.Omega.{arith}
-use lib.Dec.{ltb, eqb}
 use Rattle.lookup.proofs.Answering.{question-test, question-refused, question-none, question-asked}
 use borrow.Author.Needs.{needs}
 use Rattle.lookup.proofs.run_view_number.Statement.{statement}
