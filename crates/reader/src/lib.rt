@@ -63,9 +63,9 @@ pub struct Reading {
 pub fn read(card: &[u32], term: u32, from: u32, to: u32, answer: &mut [u32]) -> Reading
     ensures { λ r. ⌜ ReadOff (r .number) (r .count) (now (answer .exit)) (read (now (card .entry)) term from to (now (answer .entry))) ⌝ }
 {
-    let opening = open_at(card, term, from, to);
-    let number = opening.number;
-    let mut here = opening.cursor;
+    let start = open_at(card, term, from, to);
+    let number = start.number;
+    let mut here = start.cursor;
     let mut count: usize = 0;
     while count < answer.len() {
         let step = step_at(card, here);
