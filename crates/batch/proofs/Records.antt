@@ -11,7 +11,7 @@ use lib.Seq.{getD-drop, drop-drop, drop-nil}
 use lib.Dec.{ltb}
 use borrow.Author.Tests.{eq-eqb, ne-eqb, lt-ltb, le-ltb}
 use Rattle.pair.specs.Rank.{rank}
-use Rattle.pair.specs.Rising.{firstOf}
+use Rattle.pair.specs.Tests.{firstOf}
 use Rattle.batch.specs.declared.Record.{Record}
 use Rattle.batch.specs.Batch.{updates, anyUpdate, illFormed, falls, batchNumber}
 use Rattle.batch.specs.Search.{recordAt, updateOf}

@@ -8,7 +8,8 @@ use native.Mathlib.Nat.{mul-le-mul}
 use lib.ListN.{length}
 use lib.Dec.{ltb, eqb}
 use borrow.Author.Tests.{ltb-true, ltb-false, leb-true, eqb-true, not-false, lt-ltb, le-ltb, le-leb, eq-eqb}
-use Rattle.pair.specs.Rising.{risingFrom, last, firstOf}
+use Rattle.pair.specs.Rising.{risingFrom, last}
+use Rattle.pair.specs.Tests.{firstOf}
 use Rattle.pair.proofs.FirstOf.{passed}
 use Rattle.pair.proofs.Tests.{and-left, and-right}
 use Rattle.card.specs.Layout.{word, blockSize, placeCount, oldStart, oldLength, newLength, boundary, entryWidth, cardLength, inLimits, oldPlaces, newPlaces, pairsAt}

@@ -6,7 +6,8 @@ use mathlib.Core.Bool.{Bool, true, false, cond, _&&_, not, and-false}
 use mathlib.Core.List.{List, [], _∷_}
 use borrow.Author.Tests.{ltb-true, ltb-false, eqb-true, not-false}
 use lib.Dec.{eqb}
-use Rattle.pair.specs.Rising.{risingFrom, last, firstOf}
+use Rattle.pair.specs.Rising.{risingFrom, last}
+use Rattle.pair.specs.Tests.{firstOf}
 use Rattle.pair.proofs.FirstOf.{passed, firstOf-early, firstOf-append, firstOf-all-pass}
 use Rattle.card.specs.declared.SegmentScan.{SegmentScan}
 use Rattle.card.specs.Layout.{placeCount, oldStart, oldLength, newLength, boundary, oldPlaces, newPlaces, pairsAt}

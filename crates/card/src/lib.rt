@@ -3,7 +3,7 @@ ghost use mathlib.Core.Path.{_≡_};
 ghost use mathlib.Core.Bool.{cond, _&&_};
 ghost use Prim.Native.Nat.{_≤_, _<_};
 ghost use lib.Dec.{ltb, eqb};
-ghost use Rattle.pair.specs.Rising.{firstOf};
+ghost use Rattle.pair.specs.Tests.{firstOf};
 ghost use Rattle.card.specs.Layout.{placeCount, oldStart, oldLength, entryWidth, cardLength, inLimits, around, oldPlaces, formatNumber, formatted};
 ghost use Rattle.card.specs.Sound.{firstReaches, configurationConditions, judged};
 ghost use Rattle.card.specs.Scan.{Shaped, blockScanned, segmentSound, segmentScanned};

@@ -1,7 +1,7 @@
 -- With an empty batch number 8 never occurs on a sound card.
 use mathlib.Core.Path.{_≡_, refl}
 use mathlib.Core.List.{[]}
-use Rattle.pair.specs.Rising.{firstOf}
+use Rattle.pair.specs.Tests.{firstOf}
 use Rattle.card.proofs.Facts.{facts}
 use Rattle.batch.specs.Batch.{updates, anyUpdate, falls, batchNumber}
 use Rattle.update.proofs.Crowded.{empty-not-crowded}

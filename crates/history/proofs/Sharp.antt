@@ -5,7 +5,8 @@ use mathlib.Core.Bool.{false}
 use mathlib.Core.List.{List, [], _∷_}
 use lib.Dec.{eqb}
 use Rattle.pair.specs.Rank.{rank}
-use Rattle.pair.specs.Rising.{keep, above, risingFrom, last, any, firstOf, insert}
+use Rattle.pair.specs.Rising.{keep, above, risingFrom, last, any, insert}
+use Rattle.pair.specs.Tests.{firstOf}
 use Rattle.block.specs.Block.{zeros, pairsFrom, pairs, formedFrom, formed, fitting, due, goesOn}
 use Rattle.card.specs.Layout.{firstPair, place, around, pairsAt, live, boundary, oldPlaces, newPlaces}
 use Rattle.card.specs.Sound.{blocksSound, firstReaches, boundaryWords, segmentsSound, judged}

@@ -1,6 +1,7 @@
 -- P1 to P8 hold: the checker computes every row of the table.
 use mathlib.Core.Path.{refl}
-use Rattle.pair.specs.Rising.{keep, above, within, risingFrom, insert, last, any, same, firstOf}
+use Rattle.pair.specs.Rising.{keep, above, within, risingFrom, insert, last, any}
+use Rattle.pair.specs.Tests.{same, firstOf}
 use Rattle.block.specs.Block.{zeros, pairsFrom, pairs, formedFrom, formed, leading, packedAfter, blockOf, fitting, due, goesOn}
 use Rattle.card.specs.Layout.{firstPair, place, around, pairsAt, live, formatNumber, formatted}
 use Rattle.card.specs.Sound.{blocksSound, firstReaches, boundaryWords, segmentsSound, judged}

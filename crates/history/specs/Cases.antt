@@ -6,7 +6,7 @@ use mathlib.Core.List.{List, [], _∷_}
 use lib.ListN.{length, take, replicate}
 use lib.Dec.{eqb}
 use Rattle.pair.specs.Rank.{rank}
-use Rattle.pair.specs.Rising.{same}
+use Rattle.pair.specs.Tests.{same}
 use Rattle.card.specs.Layout.{entryWidth, cardLength, place, live, formatted}
 use Rattle.update.specs.Step.{step}
 use Rattle.lookup.specs.Found.{lookup}

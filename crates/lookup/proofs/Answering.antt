@@ -9,7 +9,7 @@ use lib.ListN.{length, take, drop}
 use lib.Seq.{sets}
 use lib.Dec.{ltb, eqb}
 use Rattle.pair.specs.Bounds.{isPair}
-use Rattle.pair.specs.Rising.{firstOf}
+use Rattle.pair.specs.Tests.{firstOf}
 use Rattle.pair.proofs.Bounds.{isPair-word}
 use Rattle.card.specs.Sound.{judged}
 use Rattle.card.proofs.Parts.{length-part}

@@ -6,7 +6,8 @@ use lib.ListN.{length}
 use lib.Seq.{sets}
 use lib.Dec.{ltb, leb, eqb}
 use Rattle.pair.specs.Rank.{rank, position}
-use Rattle.pair.specs.Rising.{above, within, any, firstOf}
+use Rattle.pair.specs.Rising.{above, within, any}
+use Rattle.pair.specs.Tests.{firstOf}
 use Rattle.block.specs.Block.{pairs}
 use Rattle.block.specs.Wanted.{wordsBefore}
 use Rattle.card.specs.Layout.{boundary, entryWidth, placeAt, firstPair, place, oldPlaces, newPlaces, live}

@@ -1,3 +1,4 @@
 pub mod Bounds
 pub mod Rank
 pub mod Rising
+pub mod Tests

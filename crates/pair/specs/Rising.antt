@@ -41,15 +41,3 @@ last d (x ∷ xs) = last x xs
 unfoldable pub any : (ℕ → Bool) → List ℕ → Bool
 any f [] = false
 any f (x ∷ xs) = f x || any f xs
-
--- the same numbers in the same order
-unfoldable pub same : List ℕ → List ℕ → Bool
-same [] [] = true
-same [] (y ∷ ys) = false
-same (x ∷ xs) [] = false
-same (x ∷ xs) (y ∷ ys) = eqb x y && same xs ys
-
--- the number of the first condition that holds, 0 where none does
-unfoldable pub firstOf : List (Bool × ℕ) → ℕ
-firstOf [] = 0
-firstOf (c ∷ cs) = cond (c .0) (c .1) (firstOf cs)

@@ -5,7 +5,8 @@ use mathlib.Core.Bool.{true, false}
 use mathlib.Core.List.{List, [], _∷_}
 use lib.ListN.{length, take}
 use Rattle.pair.specs.Rank.{rank}
-use Rattle.pair.specs.Rising.{keep, above, within, risingFrom, insert, last, any, same, firstOf}
+use Rattle.pair.specs.Rising.{keep, above, within, risingFrom, insert, last, any}
+use Rattle.pair.specs.Tests.{same, firstOf}
 use Rattle.block.specs.Block.{zeros, pairsFrom, pairs, formedFrom, formed, leading, packedAfter, blockOf, fitting, due, goesOn}
 use Rattle.card.specs.Layout.{firstPair, place, around, pairsAt, live, formatNumber, formatted}
 use Rattle.card.specs.Sound.{blocksSound, firstReaches, boundaryWords, segmentsSound, judged}

@@ -7,7 +7,8 @@ use mathlib.Core.List.{List, [], _∷_}
 use lib.Dec.{leb}
 use borrow.Author.Tests.{leb-false}
 use Rattle.pair.specs.Rank.{Words}
-use Rattle.pair.specs.Rising.{any, firstOf}
+use Rattle.pair.specs.Rising.{any}
+use Rattle.pair.specs.Tests.{firstOf}
 use Rattle.pair.proofs.Tests.{or-left, or-right}
 use Rattle.pair.proofs.Words.{words-nil, words-cons}
 use Rattle.card.specs.Layout.{live, formatNumber, formatted}

@@ -7,7 +7,8 @@ use native.Mathlib.Omega.{arith}
 use lib.ListN.{length, drop}
 use lib.Dec.{ltb, eqb·suc-zero}
 use Rattle.pair.specs.Rank.{Words, Proper}
-use Rattle.pair.specs.Rising.{above, risingFrom, last, same}
+use Rattle.pair.specs.Rising.{above, risingFrom, last}
+use Rattle.pair.specs.Tests.{same}
 use Rattle.pair.proofs.Each.{Each-keep}
 use Rattle.pair.proofs.Rising.{last-some, rising-above, rises-from}
 use Rattle.pair.proofs.Parts.{above-append, above-above, above-further, above-none, above-take, above-atMost-none}

@@ -12,7 +12,8 @@ use lib.Seq.{sets, drop-cons, length-take-le, take-at}
 use lib.Dec.{leb, eqb}
 use borrow.Author.Tests.{eq-eqb, ne-eqb, eqb-true, eqb-false, le-leb, lt-leb}
 use Rattle.pair.specs.Rank.{term, position, Proper}
-use Rattle.pair.specs.Rising.{Each, last, same, firstOf}
+use Rattle.pair.specs.Rising.{Each, last}
+use Rattle.pair.specs.Tests.{same, firstOf}
 use Rattle.block.specs.Block.{packedAfter, blockOf, due, goesOn}
 use Rattle.block.proofs.Due.{due-some, proper-due}
 use Rattle.card.specs.Layout.{blockSize, placeCount, oldStart, oldLength, newLength, entryWidth, entryAt, placeAt, place, oldPlaces}

@@ -5,7 +5,7 @@ use mathlib.Core.Bool.{Bool, true, false}
 use mathlib.Core.List.{List}
 use lib.Dec.{eqb}
 use borrow.Author.Tests.{eqb-true}
-use Rattle.pair.specs.Rising.{firstOf}
+use Rattle.pair.specs.Tests.{firstOf}
 use Rattle.pair.proofs.FirstOf.{passed, handed-on}
 use Rattle.batch.specs.Batch.{batchNumber}
 use Rattle.card.specs.Sound.{judged}

@@ -5,7 +5,7 @@ use mathlib.Core.Bool.{Bool, true, false, cond, not}
 use mathlib.Core.List.{List}
 use lib.ListN.{length, take, drop}
 use lib.Dec.{eqb}
-use Rattle.pair.specs.Rising.{same}
+use Rattle.pair.specs.Tests.{same}
 use Rattle.card.specs.Layout.{entryWidth, entryAt, place}
 use Rattle.update.specs.Answer.{numberOf, writeOf, freedOf, finishedOf, answerOf}
 use Rattle.update.specs.Step.{Step, remains, duePlace, dueBlock, dueEntry, nextWrite, stepNumber, taken, step}

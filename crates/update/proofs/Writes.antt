@@ -10,7 +10,8 @@ use lib.Seq.{sets}
 use lib.Dec.{eqb, eqb·suc-zero}
 use borrow.Author.Tests.{eqb-true, eq-eqb}
 use Rattle.pair.specs.Rank.{Words, Proper}
-use Rattle.pair.specs.Rising.{Each, same}
+use Rattle.pair.specs.Rising.{Each}
+use Rattle.pair.specs.Tests.{same}
 use Rattle.pair.proofs.Tests.{and-left, and-right}
 use Rattle.pair.proofs.Each.{Each-getD}
 use Rattle.pair.proofs.Order.{position-word}

@@ -9,7 +9,7 @@ use mathlib.Core.List.{List, [], _∷_}
 use lib.ListN.{length, take, drop, getD, set, drop-of-length-le}
 use lib.Seq.{sets, drop-cons, take-all, length-sets}
 use lib.Dec.{eqb}
-use Rattle.pair.specs.Rising.{same}
+use Rattle.pair.specs.Tests.{same}
 use Rattle.card.proofs.Parts.{sets-next}
 
 -- the words up to i are compared: the lists are the same exactly where ok says so of these and the rest is the same

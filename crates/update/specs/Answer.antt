@@ -6,7 +6,7 @@ use mathlib.Core.List.{List, [], _∷_}
 use lib.ListN.{take, drop, getD}
 use lib.Seq.{sets}
 use lib.Dec.{leb, eqb}
-use Rattle.pair.specs.Rising.{same}
+use Rattle.pair.specs.Tests.{same}
 use Rattle.card.specs.Layout.{placeCount, oldStart, oldLength, newLength, entryWidth, entryAt, placeAt, place, oldPlaces}
 use Rattle.update.specs.declared.StepAnswer.{StepAnswer}
 use Rattle.update.specs.declared.StepAnswer.the-variants.{Refused, Block, MapEntry, Configuration}

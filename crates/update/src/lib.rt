@@ -3,7 +3,7 @@ ghost use mathlib.Core.Path.{_≡_};
 ghost use Prim.Native.Nat.{_+_, _≤_};
 ghost use lib.ListN.{length};
 ghost use lib.Seq.{sets};
-ghost use Rattle.pair.specs.Rising.{same};
+ghost use Rattle.pair.specs.Tests.{same};
 ghost use Rattle.card.specs.Layout.{blockSize, oldLength};
 ghost use Rattle.card.specs.Sound.{judged};
 ghost use Rattle.update.specs.Step.{configured, step};

@@ -8,7 +8,7 @@ use denote.Ref.{now}
 use borrow.Author.Tests.{lt-ltb, le-ltb, eq-eqb, ne-eqb, not-true, not-false}
 use lib.Dec.{ltb, eqb}
 use lib.ListN.{length}
-use Rattle.pair.specs.Rising.{firstOf}
+use Rattle.pair.specs.Tests.{firstOf}
 use Rattle.card.proofs.Limits.{limits}
 use Rattle.card.specs.Layout.{word, blockSize, placeCount, oldStart, oldLength, newLength, entryWidth, cardLength, inLimits}
 use Rattle.card.specs.Sound.{boundaryWords, configurationConditions}

@@ -4,7 +4,7 @@ use mathlib.Core.Path.{_≡_, sym, _∙_}
 use mathlib.Core.Bool.{true}
 use borrow.Author.Tests.{eq-eqb, ne-eqb, not-true, not-false}
 use lib.ListN.{length-set}
-use Rattle.pair.specs.Rising.{firstOf}
+use Rattle.pair.specs.Tests.{firstOf}
 use Rattle.card.proofs.Limits.{limits}
 use Rattle.card.specs.Layout.{inLimits, formatNumber, formatted}
 use borrow.Author.Needs.{needs}

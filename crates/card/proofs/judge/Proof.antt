@@ -7,7 +7,7 @@ use mathlib.Core.List.{List}
 use denote.Ref.{now}
 use borrow.Author.Tests.{not-true, not-false}
 use Rattle.card.specs.Sound.{configurationConditions, judged}
-use Rattle.pair.specs.Rising.{firstOf}
+use Rattle.pair.specs.Tests.{firstOf}
 use Rattle.card.proofs.Judged.{Configured, configured, judged-early, judged-new, judged-old}
 use borrow.Author.Needs.{needs}
 use Rattle.card.proofs.judge.Statement.{statement}

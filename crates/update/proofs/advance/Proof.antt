@@ -10,7 +10,7 @@ use lib.ListN.{length, take, drop, getD, length-set}
 use lib.Seq.{sets}
 use lib.Dec.{eqb}
 use borrow.Author.Tests.{not-true, not-false}
-use Rattle.pair.specs.Rising.{same}
+use Rattle.pair.specs.Tests.{same}
 use Rattle.card.specs.Layout.{placeCount, oldStart, oldLength, newLength, entryWidth, entryAt, placeAt, place}
 use Rattle.card.proofs.Facts.{Facts, facts}
 use Rattle.card.proofs.Judging.{place-part}
