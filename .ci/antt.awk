@@ -40,7 +40,7 @@ function follow(from, line,    name, word, n, i, f, found) {
             if (!names_theorems(from, name)) add(f ".antt")
             found = 1
         }
-        if (!found) fault(from ": uses " name ", which is no file")
+        if (!found || f ~ /\/specs\/code$/) fault(from ": uses " name ", which is no file")
     }
 }
 

@@ -12,7 +12,7 @@ use Rattle.pair.proofs.Tests.{or-left, or-right}
 use Rattle.batch.specs.declared.Cursor.{Cursor}
 use Rattle.batch.specs.declared.Decision.{Decision}
 use Rattle.batch.specs.Batch.{Update, updates, anyUpdate, removes, adds, withdrawn, falls, batchNumber}
-use Rattle.batch.specs.Search.{startingTo, reachWith, reachOf, addedWith, addedOf, behind, decision, decided, start, asked, Follows}
+use Rattle.batch.specs.code.Search.{startingTo, reachWith, reachOf, addedWith, addedOf, behind, decision, decided, start, asked, Follows}
 use Rattle.batch.proofs.InOrder.{inOrder}
 use Rattle.batch.proofs.Search.{falls-lower}
 

@@ -14,7 +14,7 @@ use Rattle.pair.proofs.Tests.{and-left, and-right, or-left, or-right, or-cases}
 use Rattle.pair.proofs.Order.{proper-rank}
 use Rattle.pair.proofs.FirstOf.{passed}
 use Rattle.batch.specs.Batch.{Update, updates, anyUpdate, adds, applied, illFormed, falls, batchNumber}
-use Rattle.batch.specs.Search.{OfWords}
+use Rattle.batch.specs.code.Search.{OfWords}
 use Rattle.batch.proofs.Meaning.{added, Each-applied, rising-applied}
 
 -- the facts behind the number 0

@@ -15,7 +15,7 @@ use Rattle.pair.proofs.Rising.{rises}
 use Rattle.pair.proofs.Keep.{keep-cons}
 use Rattle.pair.proofs.Parts.{above-keep, Each-above, rises-next}
 use Rattle.batch.specs.Batch.{Update, withdrawn, withAdded, applied, falls}
-use Rattle.batch.specs.Search.{lesser, addsAbove, leastAdded}
+use Rattle.batch.specs.code.Search.{lesser, addsAbove, leastAdded}
 use Rattle.batch.proofs.Meaning.{rises-withAdded}
 
 -- the first element above k, 0 for none

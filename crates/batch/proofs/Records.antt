@@ -14,7 +14,7 @@ use Rattle.pair.specs.Rank.{rank}
 use Rattle.pair.specs.Tests.{firstOf}
 use Rattle.batch.specs.declared.Record.{Record}
 use Rattle.batch.specs.Batch.{updates, anyUpdate, illFormed, falls, batchNumber}
-use Rattle.batch.specs.Search.{recordAt, updateOf}
+use Rattle.batch.specs.code.Search.{recordAt, updateOf}
 
 -- dropping words by fours is dropping records
 updates-drop : (n : ℕ) (b : List ℕ) → updates (drop (n * 4) b) ≡ drop n (updates b)

@@ -15,7 +15,7 @@ use Rattle.batch.specs.declared.Cursor.{Cursor}
 use Rattle.batch.specs.declared.Decision.{Decision}
 use Rattle.batch.specs.declared.Record.{Record}
 use Rattle.batch.specs.Batch.{Update, updates, anyUpdate, removes, adds, withdrawn, falls}
-use Rattle.batch.specs.Search.{recordAt, updateOf, lesser, leastAdded, addsAbove, firstAdded, beforeAdded, nextAddition, startingTo, reachWith, reachOf, addedWith, addedOf, behind, decision, decided}
+use Rattle.batch.specs.code.Search.{recordAt, updateOf, lesser, leastAdded, addsAbove, firstAdded, beforeAdded, nextAddition, startingTo, reachWith, reachOf, addedWith, addedOf, behind, decision, decided}
 use Rattle.batch.proofs.Merge.{leastAdded-first}
 use Rattle.batch.proofs.Records.{update-at, update-end}
 

@@ -4,7 +4,7 @@ ghost use Prim.Native.Nat.{_/_, _<_};
 ghost use lib.ListN.{length};
 ghost use Rattle.pair.specs.Rank.{rank};
 ghost use Rattle.batch.specs.Batch.{illFormed, batchNumber};
-ghost use Rattle.batch.specs.Search.{recordAt, updateOf, nextAddition, reachWith, addedWith, decided};
+ghost use Rattle.batch.specs.code.Search.{recordAt, updateOf, nextAddition, reachWith, addedWith, decided};
 use pair::Pair;
 
 // The words of a record, and the most words of a batch: 4,096 records.

@@ -12,7 +12,7 @@ use lib.Dec.{ltb, leb}
 use Rattle.pair.specs.Rising.{risingFrom}
 use Rattle.pair.proofs.Tests.{and-left, and-right}
 use Rattle.block.specs.Block.{formedFrom}
-use Rattle.block.specs.Scan.{readsOn}
+use Rattle.block.specs.code.Scan.{readsOn}
 use Rattle.block.proofs.Walk.{formed-run, reads-on}
 use Rattle.block.proofs.Scanning.{positionsAt}
 

@@ -16,7 +16,7 @@ use Rattle.pair.proofs.Rising.{last-append}
 use Rattle.pair.proofs.Tests.{and-left, and-right}
 use Rattle.block.specs.Block.{packedAfter, packed, leading, cost, blockOf}
 use Rattle.block.specs.declared.pack.Packing.{Packing}
-use Rattle.block.specs.Packing.{hasRoom, putWords, put}
+use Rattle.block.specs.code.Packing.{hasRoom, putWords, put}
 use Rattle.block.proofs.Size.{size, size-packed}
 use Rattle.block.proofs.Filling.{Opened, opened-first, opened-same, opened-other, size-snoc}
 

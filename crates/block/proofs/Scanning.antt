@@ -13,7 +13,7 @@ use Rattle.pair.specs.Rank.{rank}
 use Rattle.pair.specs.Rising.{risingFrom, last}
 use Rattle.pair.proofs.Tests.{and-left, and-right}
 use Rattle.block.specs.Block.{zeros, pairsFrom, pairs, formedFrom, formed}
-use Rattle.block.specs.Scan.{entryStands, scanned}
+use Rattle.block.specs.code.Scan.{entryStands, scanned}
 use Rattle.block.proofs.Walk.{formed-run, last-run}
 
 -- the words up to i are read, the last pair having the term t and the position p: they are well formed as a whole exactly where ok says so of these and the rest is from there

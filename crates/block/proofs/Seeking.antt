@@ -16,9 +16,9 @@ use Rattle.pair.proofs.Sets.{rising-Each}
 use Rattle.pair.proofs.Tests.{and-left, and-right}
 use Rattle.pair.proofs.Words.{words-take, words-drop}
 use Rattle.block.specs.declared.wanted.Part.{Part}
-use Rattle.block.specs.Block.{zeros, pairsFrom, pairs, formedFrom, formed}
-use Rattle.block.specs.Scan.{readsOn}
-use Rattle.block.specs.Wanted.{isWanted, wordsBefore, EntryPart, BlockPart}
+use Rattle.block.specs.Block.{zeros, pairsFrom, pairs, wordsBefore, formedFrom, formed}
+use Rattle.block.specs.code.Scan.{readsOn}
+use Rattle.block.specs.code.Wanted.{isWanted, EntryPart, BlockPart}
 use Rattle.block.proofs.Walk.{formed-between, pairs-stops, reads-on}
 use Rattle.block.proofs.Reading.{formedFrom-rising}
 use Rattle.block.proofs.Scanning.{positionsAt}

@@ -13,7 +13,7 @@ use lib.Dec.{ltb, leb, eqb, leb·zero, leb·suc-zero, leb·suc-suc}
 use Rattle.pair.specs.Rank.{rank}
 use Rattle.pair.specs.Rising.{risingFrom, last}
 use Rattle.block.specs.Block.{zeros, pairsFrom, formedFrom, formed}
-use Rattle.block.specs.Scan.{readsOn}
+use Rattle.block.specs.code.Scan.{readsOn}
 
 -- the words up to i are read: all of them rise exactly where ok says so of these and the rest rises from p
 pub record Rises (s : List ℕ) (ok : Bool) (p i : ℕ) : Type 0 where

@@ -16,8 +16,8 @@ use Rattle.pair.proofs.Parts.{atMost-none}
 use Rattle.pair.proofs.Rising.{rising-tail}
 use Rattle.pair.proofs.Search.{stretch}
 use Rattle.pair.proofs.Sets.{rising-Each}
-use Rattle.block.specs.Block.{pairsFrom}
-use Rattle.block.specs.Wanted.{isWanted, wordsBefore, UpTo, EntryPart}
+use Rattle.block.specs.Block.{pairsFrom, wordsBefore}
+use Rattle.block.specs.code.Wanted.{isWanted, UpTo, EntryPart}
 
 -- the test of a position of the wanted term
 abbrev pub inRange : ℕ → ℕ → ℕ → Bool

@@ -1,4 +1,2 @@
 pub mod Block
-pub mod Packing
-pub mod Scan
-pub mod Wanted
+pub mod code

@@ -4,7 +4,7 @@ ghost use Prim.Native.Nat.{_≤_};
 ghost use lib.ListN.{length, drop};
 ghost use Rattle.pair.specs.Rising.{risingFrom};
 ghost use Rattle.block.specs.Block.{zeros};
-ghost use Rattle.block.specs.Scan.{entryStands, scanned};
+ghost use Rattle.block.specs.code.Scan.{entryStands, scanned};
 use pair::Pair;
 
 pub mod pack; // a block in hand, filled pair by pair

@@ -3,7 +3,7 @@ ghost use mathlib.Core.Path.{_≡_};
 ghost use lib.ListN.{length};
 ghost use Rattle.pair.specs.Rank.{term};
 ghost use Rattle.block.specs.Block.{cost};
-ghost use Rattle.block.specs.Packing.{hasRoom, putWords, put};
+ghost use Rattle.block.specs.code.Packing.{hasRoom, putWords, put};
 use pair::Pair;
 
 // The words that a pair of a new term and one of the term in hand cost.

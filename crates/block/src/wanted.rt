@@ -2,8 +2,8 @@
 ghost use mathlib.Core.Path.{_≡_};
 ghost use Prim.Native.Nat.{_≤_};
 ghost use lib.ListN.{length, drop};
-ghost use Rattle.block.specs.Scan.{readsOn};
-ghost use Rattle.block.specs.Wanted.{UpTo, EntryPart, BlockPart};
+ghost use Rattle.block.specs.code.Scan.{readsOn};
+ghost use Rattle.block.specs.code.Wanted.{UpTo, EntryPart, BlockPart};
 
 // A part of some words: where it starts and how many words it has.
 pub struct Part {

@@ -12,7 +12,7 @@ use Rattle.pair.proofs.FirstOf.{passed, firstOf-early, firstOf-append, firstOf-
 use Rattle.card.specs.declared.SegmentScan.{SegmentScan}
 use Rattle.card.specs.Layout.{placeCount, oldStart, oldLength, newLength, boundary, oldPlaces, newPlaces, pairsAt}
 use Rattle.card.specs.Sound.{blocksSound, firstReaches, configurationConditions, segmentsSound, judged}
-use Rattle.card.specs.Scan.{Shaped, segmentSound, segmentScanned}
+use Rattle.card.specs.code.Scan.{Shaped, segmentSound, segmentScanned}
 use Rattle.card.proofs.Judging.{tested}
 use Rattle.card.proofs.Limits.{limits}
 

@@ -12,13 +12,13 @@ use Rattle.pair.specs.Rising.{risingFrom, last, any}
 use Rattle.pair.proofs.Tests.{and-left, and-right}
 use Rattle.pair.proofs.Rising.{last-some, any-last, last-append, rising-append, rising-tail}
 use Rattle.block.specs.Block.{pairs, formed}
-use Rattle.block.specs.Scan.{scanned}
+use Rattle.block.specs.code.Scan.{scanned}
 use Rattle.block.specs.declared.BlockScan.{BlockScan}
 use Rattle.block.proofs.Reading.{formed-rising, formed-some}
 use Rattle.card.proofs.Live.{place-words}
 use Rattle.card.specs.Layout.{oldStart, oldLength, oldPlaces, placeCount, blockSize, entryWidth, placeAt, firstPair, place, around, pairsAt}
 use Rattle.card.specs.Sound.{liveBlock, blocksSound, firstReaches}
-use Rattle.card.specs.Scan.{blockScanned, segmentSound, segmentScanned}
+use Rattle.card.specs.code.Scan.{blockScanned, segmentSound, segmentScanned}
 
 -- a test beside a value that stands only where the block is live
 pub tested : (f : Bool) (t : ℕ → Bool) (g : ℕ) → (f && t (cond f g 0)) ≡ (f && t g)

@@ -1,3 +1,3 @@
 pub mod Layout
-pub mod Scan
 pub mod Sound
+pub mod code

@@ -6,7 +6,7 @@ ghost use lib.Dec.{ltb, eqb};
 ghost use Rattle.pair.specs.Tests.{firstOf};
 ghost use Rattle.card.specs.Layout.{placeCount, oldStart, oldLength, entryWidth, cardLength, inLimits, around, oldPlaces, formatNumber, formatted};
 ghost use Rattle.card.specs.Sound.{firstReaches, configurationConditions, judged};
-ghost use Rattle.card.specs.Scan.{Shaped, blockScanned, segmentSound, segmentScanned};
+ghost use Rattle.card.specs.code.Scan.{Shaped, blockScanned, segmentSound, segmentScanned};
 use block::BlockScan;
 use block::UNFORMED;
 use pair::Pair;

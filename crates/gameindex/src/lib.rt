@@ -6,7 +6,7 @@ ghost use Rattle.update.specs.Step.{step};
 ghost use Rattle.pair.specs.Bounds.{lowest, highest};
 ghost use Rattle.gameindex.specs.Flat.{flag, Stepped, Filled, LookedUp};
 ghost use Rattle.lookup.specs.Found.{lookup};
-ghost use Rattle.lookup.specs.Answer.{Viewed};
+ghost use Rattle.lookup.specs.Views.{Viewed};
 ghost use Rattle.reader.specs.Reader.{read, ReadOff};
 use lookup::LookupAnswer;
 

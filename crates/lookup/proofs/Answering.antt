@@ -17,10 +17,11 @@ use Rattle.lookup.specs.declared.walk.Walk.{Walk}
 use Rattle.lookup.specs.declared.walk.WalkRun.{WalkRun}
 use Rattle.lookup.specs.declared.LookupAnswer.{LookupAnswer}
 use Rattle.lookup.specs.declared.LookupAnswer.the-variants.{Refused, Found}
-use Rattle.lookup.specs.Answer.{numberOf, countOf, blocksReadOf, answerOf, Viewed}
-use Rattle.lookup.specs.Found.{found, questionNumber, lookupNumber, Lookup, lookup, run, runStart}
-use Rattle.lookup.specs.Segment.{Opened}
-use Rattle.lookup.specs.Walk.{ahead, blocksOf, Next}
+use Rattle.lookup.specs.Answer.{numberOf, countOf, blocksReadOf, answerOf}
+use Rattle.lookup.specs.Views.{run, runStart, Viewed}
+use Rattle.lookup.specs.Found.{found, questionNumber, lookupNumber, Lookup, lookup}
+use Rattle.lookup.specs.code.Segment.{Opened}
+use Rattle.lookup.specs.code.Walk.{ahead, blocksOf, Next}
 use Rattle.lookup.proofs.Answers.{lookup-found, lookup-refused}
 
 -- the test of the question: of 32-bit words, those that are no pair have a 0 among them

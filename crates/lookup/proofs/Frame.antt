@@ -7,11 +7,11 @@ use native.Mathlib.Omega.{arith}
 use lib.Dec.{ltb, leb}
 use Rattle.pair.specs.Rank.{rank, position}
 use Rattle.pair.specs.Rising.{Each, above, within}
-use Rattle.block.specs.Block.{pairs}
+use Rattle.block.specs.Block.{pairs, wordsBefore}
 use Rattle.card.specs.Layout.{boundary, entryWidth, placeAt, place, oldPlaces, newPlaces}
 use Rattle.card.proofs.Frame.{SameAt, Alike, word-alike, firstPair-alike, boundary-alike, oldPlaces-alike, newPlaces-alike, live-alike, judged-alike}
-use Rattle.block.specs.Wanted.{wordsBefore}
-use Rattle.lookup.specs.Found.{found, mappedTo, span, blocksRead, questionNumber, lookupNumber, lookup, runAt, run, runStartAt, runStart}
+use Rattle.lookup.specs.Found.{found, mappedTo, span, blocksRead, questionNumber, lookupNumber, lookup}
+use Rattle.lookup.specs.Views.{runAt, run, runStartAt, runStart}
 
 mappedTo-alike : (c d : List ℕ) (k : ℕ) (is : List ℕ) → Each (SameAt c d) is → mappedTo d k is ≡ mappedTo c k is
 unfolding mappedTo

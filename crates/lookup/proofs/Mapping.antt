@@ -18,7 +18,7 @@ use Rattle.card.specs.Layout.{placeCount, firstPair, place, around, pairsAt}
 use Rattle.card.specs.Sound.{blocksSound}
 use Rattle.card.proofs.Circle.{length-around}
 use Rattle.lookup.specs.Found.{mappedTo}
-use Rattle.lookup.specs.Segment.{Segment, LiveAfter}
+use Rattle.lookup.specs.code.Segment.{Segment, LiveAfter}
 use Rattle.lookup.proofs.Span.{first, mapped-leading}
 
 mapped-rising : (c is : List ℕ) (j : ℕ) → blocksSound c is ≡ true → risingFrom j (pairsAt c is) ≡ true → risingFrom j (map (firstPair c) is) ≡ true

@@ -10,18 +10,19 @@ use lib.Dec.{ltb, leb}
 use Rattle.pair.specs.Rank.{rank, position, Words}
 use Rattle.pair.specs.Rising.{keep, above, within}
 use Rattle.pair.proofs.Keep.{keep-append, keep-same, keep-keep, length-keep}
-use Rattle.block.specs.Block.{pairs}
-use Rattle.block.specs.Wanted.{isWanted, wordsBefore}
+use Rattle.block.specs.Block.{pairs, wordsBefore}
+use Rattle.block.specs.code.Wanted.{isWanted}
 use Rattle.block.proofs.Size.{block-size, length-size}
 use Rattle.card.specs.Layout.{blockSize, placeCount, oldStart, oldLength, newLength, boundary, entryWidth, placeAt, place, oldPlaces, newPlaces, pairsAt, live}
 use Rattle.card.proofs.Circle.{length-around}
 use Rattle.card.proofs.Facts.{Facts, facts}
 use Rattle.card.proofs.Live.{place-words}
 use Rattle.lookup.specs.declared.walk.Walk.{Walk}
-use Rattle.lookup.specs.Found.{found, span, blocksRead, questionNumber, runAt, run, runStartAt, runStart}
-use Rattle.lookup.specs.Segment.{Segment, spanned, LiveAfter, Opened}
-use Rattle.card.specs.Scan.{Shaped}
-use Rattle.lookup.specs.Walk.{postings, runOf, runStartOf, placesOf, orElse, orElseAt, ahead, nextRun, nextStart}
+use Rattle.lookup.specs.Found.{found, span, blocksRead, questionNumber}
+use Rattle.lookup.specs.Views.{runAt, run, runStartAt, runStart}
+use Rattle.lookup.specs.code.Segment.{Segment, spanned, LiveAfter, Opened}
+use Rattle.card.specs.code.Scan.{Shaped}
+use Rattle.lookup.specs.code.Walk.{postings, runOf, runStartOf, placesOf, orElse, orElseAt, ahead, nextRun, nextStart}
 use Rattle.lookup.proofs.Answers.{Asked, asked}
 use Rattle.lookup.proofs.Spanning.{Same, span-most, span-same, span-ready}
 

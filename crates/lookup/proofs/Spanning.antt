@@ -18,16 +18,15 @@ use Rattle.pair.proofs.Parts.{atMost-all, Each-atMost}
 use Rattle.pair.proofs.Rising.{rising-cons, rising-head, rising-tail, rising-last}
 use Rattle.pair.proofs.Sets.{rising-Each}
 use Rattle.pair.proofs.Tests.{and-left, and-right, or-intro}
-use Rattle.block.specs.Block.{pairs, formed}
-use Rattle.block.specs.Wanted.{wordsBefore}
+use Rattle.block.specs.Block.{pairs, wordsBefore, formed}
 use Rattle.block.proofs.Reading.{formed-some}
 use Rattle.card.specs.Layout.{entryWidth, placeCount, placeAt, firstPair, place, around, pairsAt}
 use Rattle.card.specs.Sound.{blocksSound}
 use Rattle.card.proofs.Circle.{around-drop, around-mod, length-around}
 use Rattle.card.proofs.Live.{pairsAt-append}
 use Rattle.lookup.specs.Found.{mappedTo, span}
-use Rattle.lookup.specs.Segment.{Segment, spanned}
-use Rattle.lookup.specs.Walk.{runOf, runStartOf, placesOf, Ready}
+use Rattle.lookup.specs.code.Segment.{Segment, spanned}
+use Rattle.lookup.specs.code.Walk.{runOf, runStartOf, placesOf, Ready}
 use Rattle.lookup.proofs.Span.{First, first, mapped-none, mapped-leading}
 use Rattle.lookup.proofs.Walking.{run-skip, start-skip}
 

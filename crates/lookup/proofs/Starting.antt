@@ -8,8 +8,8 @@ use Rattle.card.specs.Layout.{around}
 use Rattle.lookup.specs.declared.walk.Stretch.{Stretch}
 use Rattle.lookup.specs.declared.walk.Walk.{Walk}
 use Rattle.lookup.specs.Found.{questionNumber}
-use Rattle.lookup.specs.Segment.{Opened}
-use Rattle.lookup.specs.Walk.{Ready, Started}
+use Rattle.lookup.specs.code.Segment.{Opened}
+use Rattle.lookup.specs.code.Walk.{Ready, Started}
 use Rattle.lookup.proofs.Walking.{postings-none}
 
 -- a stretch without blocks

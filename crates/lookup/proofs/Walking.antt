@@ -13,8 +13,8 @@ use Rattle.pair.specs.Rank.{position}
 use Rattle.pair.specs.Rising.{Each, keep}
 use Rattle.pair.proofs.Keep.{keep-append}
 use Rattle.pair.proofs.Tests.{and-left, and-right}
-use Rattle.block.specs.Block.{pairs, formed}
-use Rattle.block.specs.Wanted.{isWanted, wordsBefore, BlockPart}
+use Rattle.block.specs.Block.{pairs, wordsBefore, formed}
+use Rattle.block.specs.code.Wanted.{isWanted, BlockPart}
 use Rattle.block.specs.declared.wanted.Part.{Part}
 use Rattle.block.proofs.Seeking.{take-part}
 use Rattle.card.proofs.Parts.{length-part, place-inside}
@@ -23,8 +23,8 @@ use Rattle.card.proofs.Circle.{around-mod}
 use Rattle.lookup.specs.declared.walk.Stretch.{Stretch}
 use Rattle.lookup.specs.declared.walk.Walk.{Walk}
 use Rattle.lookup.specs.declared.walk.StretchRun.{StretchRun}
-use Rattle.card.specs.Scan.{Shaped}
-use Rattle.lookup.specs.Walk.{isShaped, PlacePart, postings, runOf, runStartOf, aheadOf, firstRun, firstStart, Ready, Sought, orElse, orElseAt, ReadyWalk, Next}
+use Rattle.card.specs.code.Scan.{Shaped}
+use Rattle.lookup.specs.code.Walk.{isShaped, PlacePart, postings, runOf, runStartOf, aheadOf, firstRun, firstStart, Ready, Sought, orElse, orElseAt, ReadyWalk, Next}
 
 -- the shape of a card
 pub limits : (b n : ℕ) → ((leb b 1024 && leb 2 n) && leb n 1024) ≡ true → (b ≤ 1024) × (2 ≤ n) × (n ≤ 1024)

@@ -6,11 +6,10 @@ use lib.ListN.{length}
 use lib.Seq.{sets}
 use lib.Dec.{ltb, leb, eqb}
 use Rattle.pair.specs.Rank.{rank, position}
-use Rattle.pair.specs.Rising.{above, within, any}
+use Rattle.pair.specs.Rising.{within, any}
 use Rattle.pair.specs.Tests.{firstOf}
 use Rattle.block.specs.Block.{pairs}
-use Rattle.block.specs.Wanted.{wordsBefore}
-use Rattle.card.specs.Layout.{boundary, entryWidth, placeAt, firstPair, place, oldPlaces, newPlaces, live}
+use Rattle.card.specs.Layout.{firstPair, place, oldPlaces, newPlaces, live}
 use Rattle.card.specs.Sound.{judged}
 
 -- the live positions of the term from a to z
@@ -57,30 +56,3 @@ lookup c t a z answer =
     cond (eqb (lookupNumber c t a z answer) 0)
     (record { number = 0; count = length (found c t a z); blocks = blocksRead c t a z; answer = sets answer 0 (found c t a z) })
     (record { number = lookupNumber c t a z answer; count = 0; blocks = 0; answer = answer })
-
--- the run view's contents: the wanted live positions of the first of the places that has any
-unfoldable pub runAt : List ℕ → ℕ → ℕ → ℕ → List ℕ → List ℕ → List ℕ
-runAt c k a z [] rest = rest
-runAt c k a z (i ∷ is) rest =
-    elim (above k (within a z (pairs (place c i)))) [ [] ↦ runAt c k a z is rest | x ∷ xs ↦ map position (x ∷ xs) ]
-
-unfoldable pub run : List ℕ → ℕ → ℕ → ℕ → List ℕ
-run c t a z =
-    cond (eqb (questionNumber c t a z) 0)
-    (runAt c 0 (rank t a) (rank t z) (newPlaces c) (runAt c (boundary c) (rank t a) (rank t z) (oldPlaces c) []))
-    []
-
--- where in the card the run view's part starts
-unfoldable pub runStartAt : List ℕ → ℕ → ℕ → ℕ → List ℕ → ℕ → ℕ
-runStartAt c k a z [] rest = rest
-runStartAt c k a z (i ∷ is) rest =
-    elim (above k (within a z (pairs (place c i)))) [
-      | [] ↦ runStartAt c k a z is rest
-      | x ∷ xs ↦ placeAt entryWidth c i + wordsBefore (λ y. ltb k y && leb a y && leb y z) (place c i) 0 0
-    ]
-
-unfoldable pub runStart : List ℕ → ℕ → ℕ → ℕ → ℕ
-runStart c t a z =
-    cond (eqb (questionNumber c t a z) 0)
-    (runStartAt c 0 (rank t a) (rank t z) (newPlaces c) (runStartAt c (boundary c) (rank t a) (rank t z) (oldPlaces c) 0))
-    0

@@ -1,4 +1,4 @@
 pub mod Answer
 pub mod Found
-pub mod Segment
-pub mod Walk
+pub mod Views
+pub mod code

@@ -2,8 +2,9 @@
 ghost use mathlib.Core.Path.{_≡_};
 ghost use Prim.Native.Nat.{_+_, _*_};
 ghost use Rattle.pair.specs.Bounds.{lowest, highest};
-ghost use Rattle.lookup.specs.Found.{questionNumber, lookup, run, runStart};
-ghost use Rattle.lookup.specs.Answer.{answerOf, Viewed};
+ghost use Rattle.lookup.specs.Found.{questionNumber, lookup};
+ghost use Rattle.lookup.specs.Views.{run, runStart, Viewed};
+ghost use Rattle.lookup.specs.Answer.{answerOf};
 use crate::map::opened;
 use crate::taking::copy_ahead;
 use crate::taking::count_ahead;

@@ -3,7 +3,7 @@ ghost use mathlib.Core.Path.{_≡_};
 ghost use Prim.Native.Nat.{_+_, _<_, _≤_};
 ghost use lib.ListN.{length, take, drop};
 ghost use lib.Seq.{sets};
-ghost use Rattle.lookup.specs.Walk.{ahead, ReadyWalk};
+ghost use Rattle.lookup.specs.code.Walk.{ahead, ReadyWalk};
 use crate::walk::Walk;
 use crate::walk::next_run;
 

@@ -2,8 +2,8 @@
 ghost use mathlib.Core.Path.{_≡_};
 ghost use Prim.Native.Nat.{_<_};
 ghost use Rattle.card.specs.Layout.{placeCount};
-ghost use Rattle.card.specs.Scan.{Shaped};
-ghost use Rattle.lookup.specs.Walk.{isShaped, PlacePart, Sought, Started, Next};
+ghost use Rattle.card.specs.code.Scan.{Shaped};
+ghost use Rattle.lookup.specs.code.Walk.{isShaped, PlacePart, Sought, Started, Next};
 use crate::map::opened;
 use crate::run_view_number;
 use block::wanted::Part;

@@ -10,12 +10,12 @@ use Rattle.lookup.specs.declared.walk.Walk.{Walk}
 use Rattle.lookup.specs.declared.walk.WalkStart.{WalkStart}
 use Rattle.lookup.specs.declared.walk.WalkRun.{WalkRun}
 use Rattle.lookup.specs.Found.{questionNumber}
-use Rattle.lookup.specs.Walk.{ahead, Started, Next}
+use Rattle.lookup.specs.code.Walk.{ahead, Started, Next}
 use Rattle.reader.specs.declared.Yield.the-variants.{Posting, End}
 use Rattle.reader.specs.declared.cursor.Cursor.{Cursor}
 use Rattle.reader.specs.declared.cursor.Step.{Step}
 use Rattle.reader.specs.Reader.{allYielded, posting, ended, yielded, yieldOf}
-use Rattle.reader.specs.Cursor.{Stands, OfCard, Stepped, Later}
+use Rattle.reader.specs.code.Cursor.{Stands, OfCard, Stepped, Later}
 
 -- a reader that is opened
 pub opened-reader :

@@ -13,7 +13,7 @@ use Rattle.reader.specs.declared.Yield.the-variants.{Posting, End}
 use Rattle.reader.specs.declared.cursor.Cursor.{Cursor}
 use Rattle.reader.specs.declared.cursor.Step.{Step}
 use Rattle.reader.specs.Reader.{allYielded, posting, ended, yielded, read, yieldOf, ReadOff}
-use Rattle.reader.specs.Cursor.{Stands, Stepped}
+use Rattle.reader.specs.code.Cursor.{Stands, Stepped}
 
 -- where a posting is yielded, it is the next of them all; where the end is, there are no more
 yields-there : (ys : List ℕ) (n p : ℕ) → posting p ≡ getD (map posting ys) n ended → (n < length ys) × (p ≡ getD ys n 0)

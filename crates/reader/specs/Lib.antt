@@ -1,2 +1,2 @@
-pub mod Cursor
 pub mod Reader
+pub mod code

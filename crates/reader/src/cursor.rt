@@ -2,7 +2,7 @@
 ghost use mathlib.Core.Path.{_≡_};
 ghost use Prim.Native.Nat.{ℕ};
 ghost use Rattle.lookup.specs.Found.{questionNumber};
-ghost use Rattle.reader.specs.Cursor.{Stands, Stepped, Later};
+ghost use Rattle.reader.specs.code.Cursor.{Stands, Stepped, Later};
 use crate::Yield;
 use lookup::walk::Walk;
 use lookup::walk::next_run;

@@ -1,7 +1,7 @@
 // The posting reader: the card beside a place in it.
 ghost use mathlib.Core.Path.{_≡_};
 ghost use Rattle.lookup.specs.Found.{questionNumber};
-ghost use Rattle.reader.specs.Cursor.{Stands, Stepped};
+ghost use Rattle.reader.specs.code.Cursor.{Stands, Stepped};
 ghost use Rattle.reader.specs.Reader.{yielded, yieldOf, read, ReadOff};
 use crate::cursor::Cursor;
 use crate::cursor::open_at;

@@ -15,14 +15,14 @@ use Rattle.pair.specs.Rising.{risingFrom}
 use Rattle.pair.proofs.Tests.{and-left, and-right, contradiction}
 use Rattle.pair.proofs.Rising.{rising-head, rising-tail}
 use Rattle.block.specs.Block.{pairsFrom, pairs, formedFrom, formed}
-use Rattle.block.specs.Scan.{readsOn}
+use Rattle.block.specs.code.Scan.{readsOn}
 use Rattle.block.proofs.Walk.{reads-on, pairs-stops, unformed-start}
 use Rattle.card.specs.Layout.{blockSize, placeCount, entryWidth, firstPair, placeAt, place, around, pairsAt}
 use Rattle.card.specs.Sound.{blocksSound}
 use Rattle.card.proofs.Judging.{place-part}
 use Rattle.card.proofs.Parts.{place-inside}
 use Rattle.update.specs.declared.old.OldCursor.{OldCursor}
-use Rattle.update.specs.Old.{rest, coming, pending, EntryAt, entryAtWords, Reading, Stands, Advanced}
+use Rattle.update.specs.code.Old.{rest, coming, pending, EntryAt, entryAtWords, Reading, Stands, Advanced}
 
 -- the words of a block from a word on, one word at a time
 rest-step : (c : List ℕ) (at end : ℕ) → at < end → end ≤ length c → rest c at end ≡ getD c at 0 ∷ rest c (at + 1) end

@@ -11,7 +11,7 @@ use Rattle.pair.specs.Rank.{term, Proper}
 use Rattle.pair.specs.Rising.{last}
 use Rattle.pair.proofs.Each.{Each-second}
 use Rattle.block.specs.Block.{cost}
-use Rattle.block.specs.Packing.{hasRoom, putWords, put}
+use Rattle.block.specs.code.Packing.{hasRoom, putWords, put}
 use Rattle.block.specs.declared.pack.Packing.{Packing}
 use Rattle.block.proofs.Size.{size, length-size}
 use Rattle.block.proofs.Filling.{Filled, filled-end, filled-full}
@@ -19,8 +19,8 @@ use Rattle.block.proofs.Holding.{Holds, holds-start, holds-room, holds-put, hol
 use Rattle.card.specs.Layout.{blockSize, boundary}
 use Rattle.card.proofs.Facts.{Facts}
 use Rattle.update.specs.declared.merge.Merge.{Merge}
-use Rattle.update.specs.Due.{Answers}
-use Rattle.update.specs.Merge.{left, Merged}
+use Rattle.update.specs.code.Due.{Answers}
+use Rattle.update.specs.code.Merge.{left, Merged}
 use Rattle.update.specs.Step.{remains, dueBlock}
 use Rattle.update.proofs.Grown.{Remaining}
 

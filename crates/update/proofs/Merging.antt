@@ -15,7 +15,7 @@ use Rattle.card.specs.Layout.{boundary, live}
 use Rattle.card.proofs.Facts.{Facts}
 use Rattle.card.proofs.Live.{live-rising, live-above}
 use Rattle.batch.specs.Batch.{updates, withdrawn, withAdded, batchNumber}
-use Rattle.batch.specs.Search.{lesser, leastAdded, beforeAdded, nextAddition, decided}
+use Rattle.batch.specs.code.Search.{lesser, leastAdded, beforeAdded, nextAddition, decided}
 use Rattle.batch.specs.declared.Addition.{Addition}
 use Rattle.batch.specs.declared.Decision.{Decision}
 use Rattle.batch.proofs.InOrder.{inOrder}
@@ -25,8 +25,8 @@ use Rattle.batch.proofs.Search.{falls-drop, firstAdded-least, leastAdded-before
 use Rattle.batch.proofs.Decisions.{follows-start, follows-next, follows-withdrawn}
 use Rattle.update.specs.declared.merge.Merge.{Merge}
 use Rattle.update.specs.declared.old.OldCursor.{OldCursor}
-use Rattle.update.specs.Merge.{Merges, Begun, left, Merged}
-use Rattle.update.specs.Old.{coming, pending, Skipped}
+use Rattle.update.specs.code.Merge.{Merges, Begun, left, Merged}
+use Rattle.update.specs.code.Old.{coming, pending, Skipped}
 use Rattle.update.proofs.Skipping.{started-coming}
 
 pub merges-begun : {c b : List ℕ} {m : Merge} → Facts c → Begun c m → Merges c b m

@@ -23,8 +23,9 @@ use Rattle.batch.specs.Batch.{batchNumber}
 use Rattle.update.specs.declared.StepAnswer.{StepAnswer}
 use Rattle.update.specs.declared.StepAnswer.the-variants.{Refused, Block, MapEntry}
 use Rattle.update.specs.declared.due.Due.{Due}
-use Rattle.update.specs.Answer.{answerOf, freedBy, configurationOf, outcome}
-use Rattle.update.specs.Due.{Answers}
+use Rattle.update.specs.Answer.{answerOf}
+use Rattle.update.specs.code.Outcome.{freedBy, configurationOf, outcome}
+use Rattle.update.specs.code.Due.{Answers}
 use Rattle.update.specs.Step.{Step, remains, duePlace, spent, configured, nextBoundary, freed, grown, configuration, dueBlock, dueEntry, nextWrite, written, crowded, stepNumber, taken, step}
 use Rattle.update.proofs.Grown.{Remaining, due-first}
 

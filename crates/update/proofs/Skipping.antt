@@ -14,15 +14,15 @@ use Rattle.pair.proofs.Tests.{and-left, and-right}
 use Rattle.pair.proofs.Parts.{above-all}
 use Rattle.pair.proofs.Rising.{any-last, rising-cons}
 use Rattle.block.specs.Block.{pairs, formed}
-use Rattle.block.specs.Scan.{scanned}
+use Rattle.block.specs.code.Scan.{scanned}
 use Rattle.block.proofs.Reading.{formed-rising}
 use Rattle.card.specs.Layout.{placeCount, oldStart, oldLength, place, around, oldPlaces, pairsAt}
 use Rattle.card.specs.Sound.{blocksSound}
-use Rattle.card.specs.Scan.{Shaped}
+use Rattle.card.specs.code.Scan.{Shaped}
 use Rattle.card.proofs.Facts.{Facts}
 use Rattle.card.proofs.Live.{place-words}
 use Rattle.update.specs.declared.old.OldCursor.{OldCursor}
-use Rattle.update.specs.Old.{coming, pending, Stands, Advanced, Skipped, started}
+use Rattle.update.specs.code.Old.{coming, pending, Stands, Advanced, Skipped, started}
 use Rattle.update.specs.Step.{spent}
 use Rattle.update.proofs.Cursor.{place-block}
 

@@ -1,6 +1,4 @@
 pub mod Answer
-pub mod Due
-pub mod Merge
-pub mod Old
 pub mod Pass
 pub mod Step
+pub mod code

@@ -4,7 +4,7 @@ ghost use lib.ListN.{replicate};
 ghost use Rattle.card.specs.Layout.{blockSize};
 ghost use Rattle.card.specs.Sound.{judged};
 ghost use Rattle.batch.specs.Batch.{batchNumber};
-ghost use Rattle.update.specs.Due.{DueOf};
+ghost use Rattle.update.specs.code.Due.{DueOf};
 use crate::merge;
 use block::pack;
 

@@ -2,8 +2,8 @@
 ghost use mathlib.Core.Path.{_≡_};
 ghost use Rattle.card.specs.Sound.{judged};
 ghost use Rattle.batch.specs.Batch.{batchNumber};
-ghost use Rattle.batch.specs.Search.{lesser};
-ghost use Rattle.update.specs.Merge.{Begun, Merges, Merged};
+ghost use Rattle.batch.specs.code.Search.{lesser};
+ghost use Rattle.update.specs.code.Merge.{Begun, Merges, Merged};
 use crate::old;
 use crate::old::OldCursor;
 use pair::Pair;

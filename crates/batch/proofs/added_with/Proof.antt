@@ -1,6 +1,6 @@
 -- `batch::added_with` meets its contract.
 use borrow.Author.Tests.{eq-eqb, ne-eqb}
-use Rattle.batch.specs.Search.{addedWith}
+use Rattle.batch.specs.code.Search.{addedWith}
 use borrow.Author.Needs.{needs}
 use Rattle.batch.proofs.added_with.Statement.{statement}
 use Rattle.batch.proofs.added_with.Tie as tie

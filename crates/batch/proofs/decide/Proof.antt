@@ -4,7 +4,7 @@ use native.Mathlib.Omega.{arith}
 use mathlib.Core.Path.{_≡_, refl, sym, _∙_}
 use mathlib.Core.Logic.{⊎-elim}
 use lib.ListN.{length}
-use Rattle.batch.specs.Search.{decided}
+use Rattle.batch.specs.code.Search.{decided}
 use Rattle.batch.proofs.Search.{decided-turn, decided-stop, decided-end}
 use borrow.Author.Needs.{needs}
 use Rattle.batch.proofs.decide.Statement.{statement}

@@ -3,7 +3,7 @@ use Prim.Native.Nat.{_-_, _/_}
 use native.Mathlib.Omega.{arith}
 use mathlib.Core.Path.{_≡_, refl, sym, _∙_}
 use lib.ListN.{length}
-use Rattle.batch.specs.Search.{addsAbove, nextAddition}
+use Rattle.batch.specs.code.Search.{addsAbove, nextAddition}
 use Rattle.batch.proofs.Search.{seeks-turn, seeks-found, seeks-end}
 use borrow.Author.Needs.{needs}
 use Rattle.batch.proofs.next_addition.Statement.{statement}

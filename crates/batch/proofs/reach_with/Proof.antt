@@ -1,5 +1,5 @@
 -- `batch::reach_with` meets its contract.
-use Rattle.batch.specs.Search.{reachWith}
+use Rattle.batch.specs.code.Search.{reachWith}
 use borrow.Author.Needs.{needs}
 use Rattle.batch.proofs.reach_with.Statement.{statement}
 use Rattle.batch.proofs.reach_with.Tie as tie

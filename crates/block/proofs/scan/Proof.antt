@@ -6,7 +6,7 @@ use mathlib.Core.Bool.{true, false, _&&_}
 use mathlib.Core.List.{List}
 use borrow.Author.Tests.{not-true, not-false}
 use lib.ListN.{length, drop}
-use Rattle.block.specs.Scan.{entryStands}
+use Rattle.block.specs.code.Scan.{entryStands}
 use Rattle.block.proofs.Scanning.{Reading, Standing, standing, reading-start, reading-turn, reading-tail, reading-end, unformed, unformed-first}
 use borrow.Author.Needs.{needs}
 use Rattle.block.proofs.scan.Statement.{statement}

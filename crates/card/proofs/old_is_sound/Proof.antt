@@ -7,7 +7,7 @@ use denote.Ref.{now}
 use borrow.Author.Tests.{not-true, not-false}
 use Rattle.pair.specs.Rank.{Words}
 use Rattle.card.specs.Layout.{placeCount, oldStart, oldLength, around, oldPlaces}
-use Rattle.card.specs.Scan.{segmentScanned}
+use Rattle.card.specs.code.Scan.{segmentScanned}
 use Rattle.card.proofs.Judging.{old-none, old-places, old-turn, old-stop}
 use borrow.Author.Needs.{needs}
 use Rattle.card.proofs.old_is_sound.Statement.{statement}

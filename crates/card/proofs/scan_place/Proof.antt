@@ -5,7 +5,7 @@ use native.Mathlib.Nat.{mul-le-mul, mul-le-mul-right}
 use mathlib.Core.Path.{ap, _∙_}
 use mathlib.Core.List.{List}
 use denote.Ref.{now}
-use Rattle.block.specs.Scan.{scanned}
+use Rattle.block.specs.code.Scan.{scanned}
 use Rattle.card.specs.Layout.{blockSize, placeCount, firstPair}
 use Rattle.card.proofs.Judging.{place-part, scanned-live, scanned-dead}
 use borrow.Author.Needs.{needs}

@@ -40,7 +40,7 @@ use denote.Triple.Table.{entered, cited}
 use denote.Triple.Walked.{says, Stays, stay-none, stay-none-slice, walkOf, goes-none, goes-none-slice, Walks, ends-at, walked, walk-meets}
 use denote.Exit.{yes}
 use Rattle.lookup.specs.Found.{questionNumber}
-use Rattle.reader.specs.Cursor.{Stands}
+use Rattle.reader.specs.code.Cursor.{Stands}
 use Rattle.reader.specs.declared.cursor.Opening.{Opening}
 use Rattle.reader.proofs.cursor.Cursor as Cur
 use Rattle.reader.proofs.cursor.Cursor.Laws as Cur′

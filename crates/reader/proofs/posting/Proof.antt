@@ -42,7 +42,7 @@ use denote.Triple.Walked.{says, Stays, stay-none, stay-none-slice, walkOf, goes-
 use denote.Exit.{yes}
 use Rattle.lookup.specs.Found.{questionNumber}
 use Rattle.reader.specs.Reader.{yielded, yieldOf}
-use Rattle.reader.specs.Cursor.{Stands, Later}
+use Rattle.reader.specs.code.Cursor.{Stands, Later}
 use Rattle.reader.specs.declared.Yield.{Yield}
 use Rattle.reader.specs.declared.cursor.Cursor.{Cursor}
 use Rattle.reader.proofs.cursor.Cursor as Cur

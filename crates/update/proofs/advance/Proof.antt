@@ -14,7 +14,7 @@ use Rattle.pair.specs.Tests.{same}
 use Rattle.card.specs.Layout.{placeCount, oldStart, oldLength, newLength, entryWidth, entryAt, placeAt, place}
 use Rattle.card.proofs.Facts.{Facts, facts}
 use Rattle.card.proofs.Judging.{place-part}
-use Rattle.update.specs.Answer.{freedBy, configurationOf}
+use Rattle.update.specs.code.Outcome.{freedBy, configurationOf}
 use Rattle.update.specs.Step.{duePlace}
 use Rattle.card.proofs.Parts.{place-inside}
 use Rattle.update.proofs.Outcome.{answered-as, refusal, answer-refused, answer-block, answer-entry, outcome-none, outcome-crowded, outcome-block, outcome-entry, outcome-settled, entry-same, sets-entry}

@@ -6,7 +6,7 @@ use denote.Ref.{now}
 use Rattle.card.specs.Layout.{placeCount, oldStart, oldLength, oldPlaces}
 use Rattle.card.proofs.Circle.{length-around}
 use Rattle.card.proofs.Facts.{facts}
-use Rattle.update.specs.Answer.{freedBy}
+use Rattle.update.specs.code.Outcome.{freedBy}
 use Rattle.update.proofs.Skipping.{eight}
 use Rattle.update.proofs.Spent.{spent-length}
 use borrow.Author.Needs.{needs}

@@ -4,7 +4,8 @@ use mathlib.Core.Bool.{true, false}
 use native.Mathlib.Omega.{arith}
 use mathlib.Core.Path.{refl}
 use Rattle.card.proofs.Facts.{facts}
-use Rattle.update.specs.Answer.{answerOf, configurationOf}
+use Rattle.update.specs.Answer.{answerOf}
+use Rattle.update.specs.code.Outcome.{configurationOf}
 use Rattle.update.proofs.Skipping.{eight}
 use borrow.Author.Needs.{needs}
 use Rattle.update.proofs.settle.Statement.{statement}

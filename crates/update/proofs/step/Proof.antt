@@ -12,7 +12,7 @@ use Rattle.card.specs.Layout.{blockSize}
 use Rattle.card.specs.Sound.{judged}
 use Rattle.card.proofs.Facts.{Facts, facts}
 use Rattle.batch.specs.Batch.{batchNumber}
-use Rattle.update.specs.Answer.{outcome}
+use Rattle.update.specs.code.Outcome.{outcome}
 use Rattle.update.specs.Step.{remains, dueBlock}
 use Rattle.update.proofs.Grown.{Remaining}
 use Rattle.update.proofs.Next.{remaining}

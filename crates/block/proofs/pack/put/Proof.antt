@@ -7,7 +7,7 @@ use borrow.Author.Tests.{eq-eqb, ne-eqb, not-true, not-false}
 use lib.ListN.{length, length-set}
 use Rattle.pair.specs.Rank.{term}
 use Rattle.block.specs.Block.{cost}
-use Rattle.block.specs.Packing.{hasRoom, putWords, put}
+use Rattle.block.specs.code.Packing.{hasRoom, putWords, put}
 use Rattle.block.proofs.Holding.{Room, has-room, cost-other}
 use borrow.Author.Needs.{needs}
 use Rattle.block.proofs.pack.put.Statement.{statement}

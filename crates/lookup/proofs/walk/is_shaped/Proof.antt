@@ -3,7 +3,7 @@ use Prim.Native.Nat.{_*_, _≤_}
 use lib.ListN.{getD}
 use native.Mathlib.Omega.{arith}
 use borrow.Author.Tests.{lt-ltb, not-true, not-false}
-use Rattle.lookup.specs.Walk.{isShaped}
+use Rattle.lookup.specs.code.Walk.{isShaped}
 use Rattle.lookup.proofs.Walking.{limits, shape-off, shape-on, product-small}
 use borrow.Author.Needs.{needs}
 use Rattle.lookup.proofs.walk.is_shaped.Statement.{statement}

@@ -2,7 +2,7 @@
 use native.Mathlib.Omega.{arith}
 use mathlib.Core.Path.{sym, _∙_}
 use borrow.Author.Tests.{not-true, not-false}
-use Rattle.card.specs.Scan.{Shaped}
+use Rattle.card.specs.code.Scan.{Shaped}
 use Rattle.lookup.proofs.Walking.{Seeking, shaped-facts, seeking-start, seeking-end, seeking-unshaped, seeking-out, seeking-turn, seeking-hit}
 use borrow.Author.Needs.{needs}
 use Rattle.lookup.proofs.walk.seek.Statement.{statement}

@@ -7,12 +7,12 @@ use denote.Ref.{now}
 use lib.ListN.{length, length-replicate}
 use borrow.Author.Tests.{not-true, not-false}
 use Rattle.pair.specs.Rank.{Words}
-use Rattle.block.specs.Packing.{hasRoom}
+use Rattle.block.specs.code.Packing.{hasRoom}
 use Rattle.block.specs.declared.pack.PutAnswer.{PutAnswer}
 use Rattle.block.proofs.Holding.{put-done, put-none, length-put}
 use Rattle.card.specs.Layout.{blockSize}
 use Rattle.card.proofs.Facts.{facts}
-use Rattle.update.specs.Merge.{Merges, left}
+use Rattle.update.specs.code.Merge.{Merges, left}
 use Rattle.update.specs.Step.{remains}
 use Rattle.update.proofs.Fills.{Fills, fills-start, fills-end, fills-full, fills-turn, fills-less}
 use Rattle.update.proofs.Grown.{Remaining}

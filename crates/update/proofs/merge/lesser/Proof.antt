@@ -1,7 +1,7 @@
 -- `update::merge::lesser` meets its contract.
 use native.Mathlib.Omega.{arith}
 use mathlib.Core.Path.{sym}
-use Rattle.batch.specs.Search.{lesser}
+use Rattle.batch.specs.code.Search.{lesser}
 use Rattle.batch.proofs.Merge.{lesser-none, lesser-left, lesser-right}
 use Rattle.update.proofs.merge.lesser.Statement.{statement}
 use Rattle.update.proofs.merge.lesser.Tie as tie

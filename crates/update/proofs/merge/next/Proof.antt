@@ -9,7 +9,7 @@ use Rattle.pair.specs.Rising.{above}
 use Rattle.card.specs.Layout.{live}
 use Rattle.card.proofs.Facts.{facts}
 use Rattle.batch.specs.Batch.{updates, withAdded}
-use Rattle.update.specs.Merge.{Merges, left}
+use Rattle.update.specs.code.Merge.{Merges, left}
 use Rattle.update.proofs.Merging.{Turn, turn-end, turn-less, turn-kept, turn-withdrawn, turn-merges, merged-end, merged-kept}
 use borrow.Author.Needs.{needs}
 use Rattle.update.proofs.merge.next.Statement.{statement}

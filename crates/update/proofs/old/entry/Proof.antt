@@ -1,7 +1,7 @@
 -- `update::old::entry` meets its contract.
 use native.Mathlib.Omega.{arith}
 use Prim.Native.Nat.{_+_}
-use Rattle.update.specs.Old.{entryAtWords}
+use Rattle.update.specs.code.Old.{entryAtWords}
 use borrow.Author.Needs.{needs}
 use Rattle.update.proofs.old.entry.Statement.{statement}
 use Rattle.update.proofs.old.entry.Tie as tie

@@ -6,9 +6,9 @@ use mathlib.Core.Path.{_≡_, sym, _∙_}
 use mathlib.Core.Bool.{false}
 use denote.Ref.{now}
 use lib.ListN.{length}
-use Rattle.block.specs.Scan.{readsOn}
+use Rattle.block.specs.code.Scan.{readsOn}
 use Rattle.card.specs.Layout.{blockSize}
-use Rattle.update.specs.Old.{rest}
+use Rattle.update.specs.code.Old.{rest}
 use Rattle.card.proofs.Parts.{place-inside}
 use Rattle.update.proofs.Cursor.{position-room, advanced-position, entry-there, advanced-entry, advanced-end, place-entered, advanced-place}
 use borrow.Author.Needs.{needs}

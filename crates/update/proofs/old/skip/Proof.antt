@@ -1,5 +1,5 @@
 -- `update::old::skip` meets its contract. The invariant of its loop, Skips: the pairs passed over are not above the rank.
-use Rattle.update.specs.Old.{pending}
+use Rattle.update.specs.code.Old.{pending}
 use lib.ListN.{length}
 use Rattle.update.proofs.Skipping.{Skips, skips-start, skips-turn, skips-less, skips-end}
 use Rattle.update.proofs.old.skip.Statement.{statement}

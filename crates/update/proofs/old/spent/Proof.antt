@@ -6,7 +6,7 @@ use native.Mathlib.Nat.{mod-lt}
 use denote.Ref.{now}
 use lib.ListN.{length}
 use Rattle.pair.specs.Rank.{Words}
-use Rattle.block.specs.Scan.{scanned}
+use Rattle.block.specs.code.Scan.{scanned}
 use Rattle.card.specs.Layout.{blockSize, placeCount, oldStart, place}
 use Rattle.card.proofs.Judging.{place-part}
 use Rattle.card.proofs.Parts.{place-inside}

@@ -9,7 +9,7 @@ use Rattle.pair.specs.Rank.{rank}
 use Rattle.pair.specs.Rising.{above, risingFrom}
 use Rattle.block.specs.Block.{pairsFrom, formedFrom}
 use Rattle.card.specs.Layout.{placeCount, oldStart, oldLength, around, pairsAt}
-use Rattle.card.specs.Scan.{Shaped}
+use Rattle.card.specs.code.Scan.{Shaped}
 use Rattle.card.specs.Sound.{blocksSound}
 use Rattle.update.specs.declared.old.OldCursor.{OldCursor}
 

@@ -8,9 +8,9 @@ use lib.Dec.{eqb}
 use Rattle.pair.specs.Rising.{above}
 use Rattle.card.specs.Layout.{boundary, live}
 use Rattle.batch.specs.Batch.{updates, applied}
-use Rattle.batch.specs.Search.{leastAdded, start, Follows}
+use Rattle.batch.specs.code.Search.{leastAdded, start, Follows}
 use Rattle.update.specs.declared.merge.Merge.{Merge}
-use Rattle.update.specs.Old.{pending, Stands, Advanced, started}
+use Rattle.update.specs.code.Old.{pending, Stands, Advanced, started}
 
 -- a place in the merge, with the pairs up to the one in hand passed: the live pairs above it are those of the old cursor, no record before
 -- the one that additions are sought from adds a pair above it, and the cursor of decisions follows it

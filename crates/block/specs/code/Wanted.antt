@@ -1,13 +1,13 @@
 -- The wanted positions of a term: those above a, at most z.
-use Prim.Native.Nat.{ℕ, zero, suc, _+_, _-_, _≤_, _<_}
+use Prim.Native.Nat.{ℕ, _+_, _-_, _≤_, _<_}
 use mathlib.Core.Path.{_≡_}
-use mathlib.Core.Bool.{Bool, true, cond, _&&_}
-use mathlib.Core.List.{List, [], _∷_, map}
+use mathlib.Core.Bool.{Bool, true, _&&_}
+use mathlib.Core.List.{List, map}
 use lib.ListN.{length, take, drop, getD}
-use lib.Dec.{ltb, leb, eqb}
+use lib.Dec.{ltb, leb}
 use Rattle.pair.specs.Rank.{rank, position}
 use Rattle.pair.specs.Rising.{keep, atMost, risingFrom}
-use Rattle.block.specs.Block.{pairs, formed}
+use Rattle.block.specs.Block.{pairs, wordsBefore, formed}
 use Rattle.block.specs.declared.wanted.Part.{Part}
 
 -- the test of a pair: of the term t, with a position above a and at most z
@@ -17,14 +17,6 @@ isWanted t a z x = ltb (rank t a) x && leb x (rank t z)
 -- the part's words
 abbrev pub partOf : List ℕ → Part → List ℕ
 partOf ws r = take (r .len) (drop (r .start) ws)
-
--- how many words stand before the position of the first pair that passes the test, in words read as by pairsFrom
-unfoldable pub wordsBefore : (ℕ → Bool) → List ℕ → ℕ → ℕ → ℕ
-wordsBefore f [] t n = 0
-wordsBefore f (p ∷ ws) t (suc n) = cond (f (rank t p)) 0 (suc (wordsBefore f ws t n))
-wordsBefore f (a ∷ []) t zero = 0
-wordsBefore f (a ∷ b ∷ []) t zero = 0
-wordsBefore f (a ∷ b ∷ p ∷ ws) t zero = cond (eqb a 0) 0 (suc (suc (wordsBefore f (p ∷ ws) a b)))
 
 -- a place among positions: the one before it is at most b, the one at it above b; of rising positions, as many stand before it as are at most b
 pub record UpTo (ps : List ℕ) (b r : ℕ) : Type 0 where

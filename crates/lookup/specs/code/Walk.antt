@@ -7,11 +7,11 @@ use lib.ListN.{length, take, drop}
 use lib.Dec.{ltb, leb, eqb}
 use Rattle.pair.specs.Rank.{position}
 use Rattle.pair.specs.Rising.{Each, keep}
-use Rattle.block.specs.Block.{pairs, formed}
-use Rattle.block.specs.Wanted.{isWanted, wordsBefore}
+use Rattle.block.specs.Block.{pairs, wordsBefore, formed}
+use Rattle.block.specs.code.Wanted.{isWanted}
 use Rattle.block.specs.declared.wanted.Part.{Part}
 use Rattle.card.specs.Layout.{blockSize, placeCount, entryWidth, cardLength, placeAt, place, around, pairsAt}
-use Rattle.card.specs.Scan.{Shaped}
+use Rattle.card.specs.code.Scan.{Shaped}
 use Rattle.lookup.specs.declared.walk.Stretch.{Stretch}
 use Rattle.lookup.specs.declared.walk.Walk.{Walk}
 use Rattle.lookup.specs.declared.walk.StretchRun.{StretchRun}

@@ -7,14 +7,15 @@ use lib.Dec.{ltb, leb}
 use lib.ListN.{length}
 use Rattle.pair.specs.Rank.{rank}
 use Rattle.pair.specs.Rising.{risingFrom}
-use Rattle.block.specs.Wanted.{isWanted}
+use Rattle.block.specs.code.Wanted.{isWanted}
 use Rattle.card.specs.Layout.{placeCount, around, pairsAt}
 use Rattle.card.specs.Sound.{blocksSound}
 use Rattle.lookup.specs.declared.walk.Stretch.{Stretch}
 use Rattle.lookup.specs.declared.walk.Walk.{Walk}
-use Rattle.lookup.specs.Found.{found, mappedTo, span, blocksRead, run, runStart}
-use Rattle.card.specs.Scan.{Shaped}
-use Rattle.lookup.specs.Walk.{ahead, blocksOf, nextRun, nextStart, ReadyWalk}
+use Rattle.lookup.specs.Found.{found, mappedTo, span, blocksRead}
+use Rattle.lookup.specs.Views.{run, runStart}
+use Rattle.card.specs.code.Scan.{Shaped}
+use Rattle.lookup.specs.code.Walk.{ahead, blocksOf, nextRun, nextStart, ReadyWalk}
 
 -- the len places from start are sound blocks, rising from block to block
 pub record Segment (c : List ℕ) (start len : ℕ) : Type 0 where
