@@ -11,12 +11,13 @@
 /* The meaning of each number, in plain words. */
 static const char *const meanings[] = {
     [GI_DONE] = "sound",
-    [GI_CARD_LENGTH] = "the card has not the length that its block size and places ask for",
+    [GI_CARD_LENGTH] = "the card's length is not what B and N ask for",
     [GI_CARD_FORMAT] = "the card has an unknown format, or none",
     [GI_CARD_CONFIGURATION] = "a configuration word is outside its limits",
     [GI_CARD_BLOCKS] = "a live block, its map entry or the boundary is wrong",
     [GI_FORMAT_LIMITS] = "B must be from 8 to 1,024 and N from 2 to 1,024",
-    [GI_BATCH_RECORD] = "the batch is not up to 4,096 records of kind 1 or 2, term, from and to",
+    [GI_BATCH_RECORD] =
+        "the batch's length is no whole number of records, it has more than 4,096 records, or a record is ill formed",
     [GI_BATCH_ORDER] = "the records of the batch are not in order of term, then from",
     [GI_CARD_FULL] = "the card is full: the next block would leave no place free",
     [GI_LOOKUP_RANGE] = "term and from must be at least 1, and from at most to",

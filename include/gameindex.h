@@ -21,13 +21,13 @@ extern "C" {
 /* The numbers that a call can give. */
 enum {
     GI_DONE = 0,               /* no refusal; from the judge, a sound card */
-    GI_CARD_LENGTH = 1,        /* another length than B and N ask for */
+    GI_CARD_LENGTH = 1,        /* fewer than 8 words, or another length than B and N ask for */
     GI_CARD_FORMAT = 2,        /* the first word is not a known format */
     GI_CARD_CONFIGURATION = 3, /* configuration words outside their limits */
     GI_CARD_BLOCKS = 4,        /* a live block, its map entry or the boundary is wrong */
     GI_FORMAT_LIMITS = 5,      /* the formatter's B or N is outside its limits */
-    GI_BATCH_RECORD = 6,       /* a length that is no records, too many of them, or a record that is none */
-    GI_BATCH_ORDER = 7,        /* the records fall from one to the next */
+    GI_BATCH_RECORD = 6,       /* no whole number of records, more than 4,096, or a record is ill formed */
+    GI_BATCH_ORDER = 7,        /* the records are not in order of term, then from */
     GI_CARD_FULL = 8,          /* the step would leave no place free */
     GI_LOOKUP_RANGE = 9,       /* term or from is 0, or from is above to */
     GI_LOOKUP_ANSWER = 10      /* fewer answer words than positions */
@@ -102,7 +102,7 @@ uint32_t gi_judge(const uint32_t *card, size_t card_len);
  * goes on where it was.
  *
  * Gives the judge's number for a card that is not sound; then 6, then 7 for a
- * batch that is none; then 8 where the write of the configuration words to come
+ * batch that is wrong; then 8 where the write of the configuration words to come
  * would leave no place free. After a refusal write, freed and finished are 0 and
  * no word of the card has changed. Otherwise gives 0; write is one of the three
  * writes, and with the third, freed is the number of old places that it freed
