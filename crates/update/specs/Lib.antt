@@ -3,4 +3,5 @@ pub mod Due
 pub mod Merge
 pub mod Old
 pub mod Pass
+pub mod Span
 pub mod Step
