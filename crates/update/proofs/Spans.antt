@@ -6,8 +6,10 @@ use mathlib.Core.List.{List}
 use borrow.Author.Tests.{ne-eqb}
 use Rattle.card.specs.Layout.{blockSize, entryWidth, entryAt, placeAt}
 use Rattle.card.specs.Sound.{judged}
+use Rattle.card.proofs.Frame.{Alike, judged-alike}
 use Rattle.update.specs.Step.{duePlace}
 use Rattle.update.specs.Span.{writeSpan}
+use Rattle.update.proofs.Frame.{size-alike, count-alike, duePlace-alike}
 
 -- A refused card has no words of a write.
 pub span-refused : (c : List ℕ) (w : ℕ) → judged c ≢ 0 → writeSpan c w ≡ record { number = judged c; start = 0; count = 0 }
@@ -31,3 +33,8 @@ module _ (c : List ℕ) (j : judged c ≡ 0) where
   pub span-none : (w : ℕ) → w ≢ 1 → w ≢ 2 → w ≢ 3 → writeSpan c w ≡ record { number = 0; start = 0; count = 0 }
   unfolding writeSpan
   span-none w one two three = rw (j, ne-eqb w 1 one, ne-eqb w 2 two, ne-eqb w 3 three)
+
+-- On cards that differ in free places and their map entries at most, a write stands at the same words.
+pub span-alike : (c d : List ℕ) (w : ℕ) → Alike c d → writeSpan d w ≡ writeSpan c w
+unfolding writeSpan
+span-alike c d w a = rw (judged-alike c d a, duePlace-alike c d a, count-alike c d a, size-alike c d a)
