@@ -12,4 +12,5 @@ pub mod Removals
 pub mod Sharp
 pub mod SmallCards
 pub mod StepByStep
+pub mod WriteStands
 pub mod Yields

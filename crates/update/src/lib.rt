@@ -6,7 +6,8 @@ ghost use lib.Seq.{sets};
 ghost use Rattle.pair.specs.Tests.{same};
 ghost use Rattle.card.specs.Layout.{blockSize, oldLength};
 ghost use Rattle.card.specs.Sound.{judged};
-ghost use Rattle.update.specs.Step.{configured, step};
+ghost use Rattle.update.specs.Span.{writeSpan};
+ghost use Rattle.update.specs.Step.{duePlace, configured, step};
 ghost use Rattle.update.specs.Answer.{numberOf, writeOf, freedOf, finishedOf, answerOf};
 ghost use Rattle.update.specs.code.Outcome.{freedBy, configurationOf, outcome};
 use card::CONFIGURATION_WORDS;
@@ -211,4 +212,61 @@ pub fn step(card: &mut [u32], batch: &[u32]) -> StepAnswer
     let mut buffer = [0u32; BLOCK_MOST];
     let due = due::fill(card, batch, &mut buffer[..size]);
     advance(card, &buffer[..size], due)
+}
+
+// The number of a card that is refused; where in the card a write stands and how many words it has.
+pub struct WriteSpan {
+    pub number: u32,
+    pub start: usize,
+    pub count: usize,
+}
+
+// The place that a block is due at.
+fn due_place(card: &[u32]) -> usize
+    requires { ⌜ judged (now card) ≡ 0 ⌝ }
+    ensures { λ r. ⌜ r ≡ duePlace (now (card .entry)) ⌝ }
+{
+    ((card[3] + card[4] + card[5]) % card[2]) as usize
+}
+
+// Where a write of a step stands in the card that the step left; no words for a write that is none of the three, nor where the card is refused.
+pub fn write_span(card: &[u32], write: u32) -> WriteSpan
+    ensures { λ r. ⌜ r ≡ writeSpan (now (card .entry)) write ⌝ }
+{
+    let number = card::judge(card);
+    if number != 0 {
+        return WriteSpan {
+            number,
+            start: 0,
+            count: 0,
+        };
+    }
+    if write == 1 {
+        let place = due_place(card);
+        return WriteSpan {
+            number: 0,
+            start: old::place_start(card, place),
+            count: card[1] as usize,
+        };
+    }
+    if write == 2 {
+        let place = due_place(card);
+        return WriteSpan {
+            number: 0,
+            start: CONFIGURATION_WORDS + ENTRY_WIDTH * place,
+            count: ENTRY_WIDTH,
+        };
+    }
+    if write == 3 {
+        return WriteSpan {
+            number: 0,
+            start: 0,
+            count: CONFIGURATION_WORDS,
+        };
+    }
+    WriteSpan {
+        number: 0,
+        start: 0,
+        count: 0,
+    }
 }
