@@ -162,6 +162,14 @@ fn settle(card: &mut [u32], due: Due, freed: u32, grown: u32) -> StepAnswer
     }
 }
 
+// The place that a block is due at.
+fn due_place(card: &[u32]) -> usize
+    requires { ⌜ judged (now card) ≡ 0 ⌝ }
+    ensures { λ r. ⌜ r ≡ duePlace (now (card .entry)) ⌝ }
+{
+    ((card[3] + card[4] + card[5]) % card[2]) as usize
+}
+
 // Makes the next write for a due block, or refuses.
 fn advance(card: &mut [u32], block: &[u32], due: Due) -> StepAnswer
     requires { ⌜ judged (now card) ≡ 0 ⌝ }
@@ -178,7 +186,7 @@ fn advance(card: &mut [u32], block: &[u32], due: Due) -> StepAnswer
     if places <= old_length - freed + (new_length + 1) {
         return StepAnswer::Refused(CROWDED);
     }
-    let place = ((card[3] + old_length + new_length) % places) as usize;
+    let place = due_place(card);
     let start = old::place_start(card, place);
     let end = start + block.len();
     if !same(&card[start..end], block) {
@@ -219,14 +227,6 @@ pub struct WriteSpan {
     pub number: u32,
     pub start: usize,
     pub count: usize,
-}
-
-// The place that a block is due at.
-fn due_place(card: &[u32]) -> usize
-    requires { ⌜ judged (now card) ≡ 0 ⌝ }
-    ensures { λ r. ⌜ r ≡ duePlace (now (card .entry)) ⌝ }
-{
-    ((card[3] + card[4] + card[5]) % card[2]) as usize
 }
 
 // Where a write of a step stands in the card that the step left; no words for a write that is none of the three, nor where the card is refused.
