@@ -167,7 +167,11 @@ fn due_place(card: &[u32]) -> usize
     requires { ⌜ judged (now card) ≡ 0 ⌝ }
     ensures { λ r. ⌜ r ≡ duePlace (now (card .entry)) ⌝ }
 {
-    ((card[3] + card[4] + card[5]) % card[2]) as usize
+    let places = card[2];
+    let start = card[3];
+    let old_length = card[4];
+    let new_length = card[5];
+    ((start + old_length + new_length) % places) as usize
 }
 
 // Makes the next write for a due block, or refuses.

@@ -3,13 +3,12 @@ use Prim.Native.Nat.{ℕ, _+_, _%_, _<_}
 use native.Mathlib.Omega.{arith}
 use native.Mathlib.Nat.{mod-lt}
 use denote.Ref.{now}
-use mathlib.Core.Path.{_≡_, refl}
+use mathlib.Core.Path.{refl}
 use mathlib.Core.List.{List}
 use Rattle.card.specs.Layout.{placeCount, oldStart, oldLength, newLength}
 use Rattle.card.proofs.Facts.{Facts, facts}
 use Rattle.update.specs.Step.{duePlace}
 use Rattle.update.proofs.Skipping.{eight}
-use borrow.Author.Needs.{needs}
 use Rattle.update.proofs.due_place.Statement.{statement}
 use Rattle.update.proofs.due_place.Tie as tie
 
@@ -23,23 +22,23 @@ F s = facts (W s) (s .pre)
 here : (s : tie.Start) → (oldStart (W s) + oldLength (W s) + newLength (W s)) % placeCount (W s) < placeCount (W s)
 here s = mod-lt (oldStart (W s) + oldLength (W s) + newLength (W s)) (omega (arith, F s .countLow))
 
-shared-slice-read-result : tie.Need-shared-slice-read-result
-shared-slice-read-result c = omega (arith, eight (F (c .before)))
+shared-slice-read-places : tie.Need-shared-slice-read-places
+shared-slice-read-places c = omega (arith, eight (F (c .before)))
 
-shared-slice-read-result-2 : tie.Need-shared-slice-read-result-2
-shared-slice-read-result-2 c = omega (arith, eight (F (c .before .before)))
+shared-slice-read-start : tie.Need-shared-slice-read-start
+shared-slice-read-start c = omega (arith, eight (F (c .before .before)))
+
+shared-slice-read-old-length : tie.Need-shared-slice-read-old-length
+shared-slice-read-old-length c = omega (arith, eight (F (c .before .before .before)))
+
+shared-slice-read-new-length : tie.Need-shared-slice-read-new-length
+shared-slice-read-new-length c = omega (arith, eight (F (c .before .before .before .before)))
 
 add-result : tie.Need-add-result
-add-result c = omega (arith, F (c .before .before) .start, F (c .before .before) .room, F (c .before .before) .countHigh)
-
-shared-slice-read-result-3 : tie.Need-shared-slice-read-result-3
-shared-slice-read-result-3 c = omega (arith, eight (F (c .before .before .before)))
+add-result c = omega (arith, F (c .before .before .before .before) .start, F (c .before .before .before .before) .room, F (c .before .before .before .before) .countHigh)
 
 add-result-2 : tie.Need-add-result-2
-add-result-2 c = omega (arith, F (c .before .before .before) .start, F (c .before .before .before) .room, F (c .before .before .before) .countHigh)
-
-shared-slice-read-result-4 : tie.Need-shared-slice-read-result-4
-shared-slice-read-result-4 c = omega (arith, eight (F (c .before .before .before .before)))
+add-result-2 c = omega (arith, F (c .before .before .before .before) .start, F (c .before .before .before .before) .room, F (c .before .before .before .before) .countHigh)
 
 rem-result : tie.Need-rem-result
 rem-result c = omega (arith, F (c .before .before .before .before) .countLow)
@@ -55,12 +54,12 @@ pub due-place-spec : {M : Type 1} → statement M
 due-place-spec =
     tie.close
     (tie.spec
-    shared-slice-read-result
-    shared-slice-read-result-2
+    shared-slice-read-places
+    shared-slice-read-start
+    shared-slice-read-old-length
+    shared-slice-read-new-length
     add-result
-    shared-slice-read-result-3
     add-result-2
-    shared-slice-read-result-4
     rem-result
     cast-result
     returns)
