@@ -237,10 +237,10 @@ pub struct WriteSpan {
 pub fn write_span(card: &[u32], write: u32) -> WriteSpan
     ensures { λ r. ⌜ r ≡ writeSpan (now (card .entry)) write ⌝ }
 {
-    let number = card::judge(card);
-    if number != 0 {
+    let refusal = card::judge(card);
+    if refusal != 0 {
         return WriteSpan {
-            number,
+            number: refusal,
             start: 0,
             count: 0,
         };
