@@ -236,10 +236,10 @@ pub struct WriteSpan {
 pub fn write_span(card: &[u32], write: u32) -> WriteSpan
     ensures { λ r. ⌜ r ≡ writeSpan (now (card .entry)) write ⌝ }
 {
-    let number = card::judge(card);
-    if number != 0 {
+    let judged = card::judge(card);
+    if judged != 0 {
         return WriteSpan {
-            number,
+            number: judged,
             start: 0,
             count: 0,
         };
