@@ -2,7 +2,7 @@
 use Prim.Native.Nat.{ℕ, _+_, _≤_, _<_}
 use native.Mathlib.Omega.{arith}
 use mathlib.Core.Path.{_≡_, refl, sym, ap, _∙_}
-use mathlib.Core.Bool.{Bool, true, false, cond, _&&_, _||_, not, or-assoc, or-false, and-false, and-true}
+use mathlib.Core.Bool.{Bool, true, false, cond, _&&_, _||_, or-assoc, or-false, and-false, and-true}
 use mathlib.Core.List.{List, [], _∷_, _++_}
 use lib.ListN.{length, drop, length-append}
 use lib.Dec.{ltb, leb, eqb}
@@ -10,7 +10,6 @@ use borrow.Author.Tests.{ltb-true, ltb-false, le-leb, lt-leb, eq-eqb, ne-eqb, eq
 use Rattle.pair.specs.Rank.{rank}
 use Rattle.pair.proofs.Tests.{or-left, or-right}
 use Rattle.batch.specs.declared.Cursor.{Cursor}
-use Rattle.batch.specs.declared.Decision.{Decision}
 use Rattle.batch.specs.Batch.{Update, updates, anyUpdate, removes, adds, withdrawn, falls, batchNumber}
 use Rattle.batch.specs.code.Search.{startingTo, reachWith, reachOf, addedWith, addedOf, behind, decision, decided, start, asked, Follows}
 use Rattle.batch.proofs.InOrder.{inOrder}

@@ -1,20 +1,17 @@
 -- The walks over the records of a batch: the next addition, and whether a pair is withdrawn.
-use Prim.Native.Nat.{ℕ, zero, suc, _+_, _*_, _/_, _≤_, _<_}
-use native.Mathlib.Nat.{add-zero, add-assoc}
+use Prim.Native.Nat.{ℕ, zero, suc, _+_, _/_, _≤_, _<_}
+use native.Mathlib.Nat.{add-zero}
 use native.Mathlib.Omega.{arith}
-use mathlib.Core.Path.{_≡_, refl, sym, ap, _∙_}
-use mathlib.Core.Bool.{Bool, true, false, cond, _&&_, _||_, not, or-assoc, or-false, and-false, false≢true}
-use mathlib.Core.List.{List, [], _∷_, _++_}
-use lib.ListN.{length, drop, length-append}
-use lib.Dec.{ltb, leb, eqb}
-use borrow.Author.Tests.{ltb-true, ltb-false, le-leb, lt-leb, eq-eqb, ne-eqb, le-ltb, lt-ltb}
+use mathlib.Core.Path.{_≡_, refl, sym, _∙_}
+use mathlib.Core.Bool.{Bool, true, false, cond, _&&_, false≢true}
+use mathlib.Core.List.{List, [], _∷_}
+use lib.ListN.{length, drop}
+use lib.Dec.{ltb, eqb}
+use borrow.Author.Tests.{ltb-true, ltb-false, le-ltb, lt-ltb}
 use Rattle.pair.specs.Rank.{rank}
 use Rattle.pair.proofs.Tests.{and-left, and-right, or-left, or-right, or-both, and-both, not-holds}
-use Rattle.batch.specs.declared.Addition.{Addition}
 use Rattle.batch.specs.declared.Cursor.{Cursor}
-use Rattle.batch.specs.declared.Decision.{Decision}
-use Rattle.batch.specs.declared.Record.{Record}
-use Rattle.batch.specs.Batch.{Update, updates, anyUpdate, removes, adds, withdrawn, falls}
+use Rattle.batch.specs.Batch.{Update, updates, falls}
 use Rattle.batch.specs.code.Search.{recordAt, updateOf, lesser, leastAdded, addsAbove, firstAdded, beforeAdded, nextAddition, startingTo, reachWith, reachOf, addedWith, addedOf, behind, decision, decided}
 use Rattle.batch.proofs.Merge.{leastAdded-first}
 use Rattle.batch.proofs.Records.{update-at, update-end}

@@ -9,7 +9,7 @@ use mathlib.Core.List.{List, [], _∷_, _++_, append-assoc, append-nil}
 use lib.ListN.{length, set, replicate, length-append, length-replicate, length-set}
 use lib.Seq.{set-at}
 use lib.Dec.{ltb, leb, eqb}
-use borrow.Author.Tests.{eqb-true, eqb-false, eq-eqb, ne-eqb, leb-true, leb-false, le-leb, ltb-true, lt-ltb, lt-leb}
+use borrow.Author.Tests.{eqb-true, eqb-false, ne-eqb, leb-true, leb-false, le-leb, ltb-true, lt-ltb, lt-leb}
 use Rattle.pair.specs.Rank.{term, position, Proper}
 use Rattle.pair.specs.Rising.{last}
 use Rattle.pair.proofs.Rising.{last-append}

@@ -1,11 +1,11 @@
 -- The due block filled: what remains is the pairs put into it so far and what is left above the last of them.
-use Prim.Native.Nat.{ℕ, _+_, _-_, _≤_, _<_}
+use Prim.Native.Nat.{ℕ, _+_, _-_, _<_}
 use native.Mathlib.Omega.{arith}
 use mathlib.Core.Path.{_≡_, refl, sym, ap, _∙_}
-use mathlib.Core.Bool.{Bool, true, false, cond}
+use mathlib.Core.Bool.{Bool, true, false}
 use mathlib.Core.List.{List, [], _∷_, _++_, append-assoc, append-nil}
-use lib.ListN.{length, set, replicate, length-append, length-set, length-replicate}
-use lib.Dec.{leb, eqb, eqb·suc-zero}
+use lib.ListN.{length, replicate, length-append, length-replicate}
+use lib.Dec.{eqb, eqb·suc-zero}
 use borrow.Author.Tests.{eq-eqb, ne-eqb, leb-false}
 use Rattle.pair.specs.Rank.{term, Proper}
 use Rattle.pair.specs.Rising.{last}

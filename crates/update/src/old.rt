@@ -2,7 +2,6 @@
 ghost use mathlib.Core.Path.{_≡_};
 ghost use Prim.Native.Nat.{_-_, _≤_, _<_};
 ghost use lib.ListN.{length, take, drop};
-ghost use Rattle.pair.specs.Rising.{above};
 ghost use Rattle.block.specs.code.Scan.{readsOn};
 ghost use Rattle.card.specs.Layout.{entryWidth, placeCount, placeAt, oldPlaces};
 ghost use Rattle.card.specs.code.Scan.{Shaped};

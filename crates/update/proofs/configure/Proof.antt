@@ -1,6 +1,5 @@
 -- `update::configure` meets its contract: the five words are set one after the other.
 use native.Mathlib.Omega.{arith}
-use mathlib.Core.Path.{refl}
 use lib.ListN.{length-set}
 use Rattle.card.proofs.Facts.{facts}
 use Rattle.update.specs.Step.{configured}

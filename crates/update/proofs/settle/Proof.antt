@@ -2,7 +2,6 @@ use mathlib.Core.Path.{_≡_, _∙_}
 use mathlib.Core.Bool.{true, false}
 -- `update::settle` meets its contract.
 use native.Mathlib.Omega.{arith}
-use mathlib.Core.Path.{refl}
 use Rattle.card.proofs.Facts.{facts}
 use Rattle.update.specs.Answer.{answerOf}
 use Rattle.update.specs.code.Outcome.{configurationOf}

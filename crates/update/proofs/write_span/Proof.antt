@@ -2,13 +2,11 @@
 use Prim.Native.Nat.{ℕ, _<_}
 use native.Mathlib.Omega.{arith}
 use denote.Ref.{now}
-use mathlib.Core.Path.{_≡_, sym, _∙_, ap}
+use mathlib.Core.Path.{_≡_, sym, _∙_}
 use mathlib.Core.List.{List}
 use Rattle.card.specs.Layout.{placeCount}
 use Rattle.card.specs.Sound.{judged}
 use Rattle.card.proofs.Facts.{Facts, facts}
-use Rattle.update.specs.Span.{writeSpan}
-use Rattle.update.specs.Step.{duePlace}
 use Rattle.update.proofs.Skipping.{shape, eight}
 use Rattle.update.proofs.Spans.{span-refused, span-block, span-entry, span-configuration, span-none}
 use Rattle.update.proofs.Writes.{due-inside}

@@ -2,13 +2,13 @@
 use Prim.Native.Nat.{_+_, _≤_, _<_}
 use native.Mathlib.Omega.{arith}
 use mathlib.Core.Path.{_≡_, sym, _∙_}
-use mathlib.Core.Bool.{true, false}
-use borrow.Author.Tests.{eq-eqb, ne-eqb, not-true, not-false}
+use mathlib.Core.Bool.{true}
+use borrow.Author.Tests.{not-true, not-false}
 use lib.ListN.{length, length-set}
 use Rattle.pair.specs.Rank.{term}
 use Rattle.block.specs.Block.{cost}
 use Rattle.block.specs.code.Packing.{hasRoom, putWords, put}
-use Rattle.block.proofs.Holding.{Room, has-room, cost-other}
+use Rattle.block.proofs.Holding.{has-room, cost-other}
 use borrow.Author.Needs.{needs}
 use Rattle.block.proofs.pack.put.Statement.{statement}
 use Rattle.block.proofs.pack.put.Tie as tie

@@ -2,7 +2,6 @@
 -- pair in hand. The measure is what is left.
 use native.Mathlib.Omega.{arith}
 use mathlib.Core.Path.{_≡_, sym, ap, _∙_}
-use mathlib.Core.Bool.{Bool}
 use denote.Ref.{now}
 use lib.ListN.{length, length-replicate}
 use borrow.Author.Tests.{not-true, not-false}

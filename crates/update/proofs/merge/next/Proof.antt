@@ -1,6 +1,5 @@
 -- `update::merge::next` meets its contract. The invariant of its loop: the place in hand is one of the merge, and what is left above its pair
 -- is what was left at first. The measure is the pairs, old and added, above it.
-use native.Mathlib.Omega.{arith}
 use mathlib.Core.Path.{_≡_, refl, _∙_}
 use borrow.Author.Tests.{not-true, not-false}
 use denote.Ref.{now}
