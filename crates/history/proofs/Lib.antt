@@ -12,5 +12,4 @@ pub mod Removals
 pub mod Sharp
 pub mod SmallCards
 pub mod StepByStep
-pub mod WriteStands
 pub mod Yields

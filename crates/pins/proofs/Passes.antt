@@ -1,28 +1,25 @@
 -- What is claimed of passes, written out.
-use Prim.Native.Nat.{ℕ, _+_, _*_, _-_, _≤_, _<_}
+use Prim.Native.Nat.{ℕ, _+_, _*_, _-_, _≤_}
 use mathlib.Core.Path.{_≡_}
 use mathlib.Core.Bool.{Bool, true, false, cond, _||_, or-false, or-assoc}
-use mathlib.Core.Logic.{inl, inr}
 use mathlib.Core.List.{List, [], _∷_}
 use lib.Dec.{eqb}
-use lib.ListN.{length, drop, getD}
+use lib.ListN.{drop}
 use Rattle.pair.specs.Rank.{Words}
 use Rattle.pair.specs.Rising.{above, atMost}
 use Rattle.block.specs.Block.{fitting}
 use Rattle.card.specs.Layout.{blockSize, placeCount, oldLength, newLength, boundary, live}
 use Rattle.card.specs.Sound.{judged}
 use Rattle.batch.specs.Batch.{updates, anyUpdate, applied, batchNumber}
-use Rattle.update.specs.Span.{writeSpan}
 use Rattle.update.specs.Step.{remains, stepNumber, step}
 use Rattle.update.specs.Pass.{blocks, stepLimit, finishesWithin, refusedWithin}
 use Rattle.history.specs.History.{Event, stepped, cut, looked, restarted, formats, after}
-use Rattle.history.specs.Claims.{Lends, Keeps, ran, freePlaces, finishing, finished, KeptBatch, PassFinishes, EmptyNeverFull, RemovalsNeverFull, MovesPast, RemainsNext, WriteStands}
+use Rattle.history.specs.Claims.{Lends, Keeps, ran, freePlaces, finishing, finished, KeptBatch, PassFinishes, EmptyNeverFull, RemovalsNeverFull, MovesPast, RemainsNext}
 use Rattle.history.proofs.EmptyBatch.{emptyNeverFull}
 use Rattle.history.proofs.KeptBatch.{keptBatch}
 use Rattle.history.proofs.PassEnds.{passFinishes}
 use Rattle.history.proofs.Removals.{removalsNeverFull}
 use Rattle.history.proofs.StepByStep.{movesPast, remainsNext}
-use Rattle.history.proofs.WriteStands.{writeStands}
 use Rattle.pins.specs.Lists.{wordsOf, Throughout}
 use Rattle.pins.proofs.Demand3.{given}
 
@@ -91,14 +88,3 @@ pub remains-beyond :
     remains (step c b .card) b ≡ drop (fitting (blockSize c) 0 (remains c b)) (remains c b)
 unfolding RemainsNext
 remains-beyond = remainsNext
-
--- a step leaves the length of the card and every word before and after those where the write that it names stands in the card that it leaves
-pub write-stands :
-    (c b : List ℕ) → Words c → Words b →
-    let d = step c b .card in
-    let p = writeSpan d (step c b .write) in
-    (length d ≡ length c)
-    × ((i : ℕ) → i < p .start → getD d i 0 ≡ getD c i 0)
-    × ((i : ℕ) → p .start + p .count ≤ i → getD d i 0 ≡ getD c i 0)
-unfolding WriteStands
-write-stands c b wc wb = let s = writeStands c b wc wb in (s .0, (λ i h. s .1 i (inl h)), λ i h. s .1 i (inr h))

@@ -125,10 +125,6 @@ module _ (c r : List ℕ) (f : Facts c) (m : Remaining c r) (ready : 0 < length 
     unfolding nextBoundary
     nextBoundary-end = rw end
 
-    pub freed-end : freed c r ≡ oldLength c
-    unfolding freed
-    freed-end = rw end
-
     room-end : crowded c r ≡ false → grown c r < placeCount c
     unfolding grown
     room-end free = go (eqb (length r) 0) refl

@@ -5,8 +5,8 @@ use mathlib.Core.List.{List, [], _∷_}
 use native.Mathlib.Omega.{arith}
 use Rattle.pair.specs.Rising.{Each}
 use Rattle.card.specs.Layout.{blockSize, placeCount, oldStart, oldLength, newLength, oldPlaces}
-use Rattle.card.proofs.Frame.{SameAt, Alike, word-alike, boundary-alike, oldPlaces-alike, live-alike, judged-alike}
-use Rattle.update.specs.Step.{remains, duePlace, spent, nextBoundary, freed, grown, dueBlock, crowded, stepNumber}
+use Rattle.card.proofs.Frame.{SameAt, Alike, word-alike, boundary-alike, oldPlaces-alike, live-alike}
+use Rattle.update.specs.Step.{remains, duePlace, spent, nextBoundary, freed, grown, dueBlock, crowded}
 
 spent-same : (c d : List ℕ) (k : ℕ) (is : List ℕ) → Each (SameAt c d) is → spent d k is ≡ spent c k is
 unfolding spent
@@ -58,8 +58,3 @@ module _ (c d : List ℕ) (a : Alike c d) where
   pub crowded-alike : (r : List ℕ) → crowded d r ≡ crowded c r
   unfolding crowded
   crowded-alike r = rw (freed-alike r, grown-alike r, size-alike, count-alike, oldLength-alike)
-
-  -- The step's number is the same.
-  pub stepNumber-alike : (b : List ℕ) → stepNumber d b ≡ stepNumber c b
-  unfolding stepNumber
-  stepNumber-alike b = rw (judged-alike c d a, remains-alike b, crowded-alike (remains c b))

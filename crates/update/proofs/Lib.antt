@@ -14,7 +14,6 @@ pub mod Room
 pub mod Roomy
 pub mod Settled
 pub mod Skipping
-pub mod Spans
 pub mod Spent
 pub mod Steps
 pub mod Values

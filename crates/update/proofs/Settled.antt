@@ -8,12 +8,12 @@ use lib.ListN.{length}
 use Rattle.pair.specs.Rank.{term, position, Words}
 use Rattle.pair.specs.Rising.{last}
 use Rattle.block.specs.Block.{due, goesOn}
-use Rattle.card.specs.Layout.{word, blockSize, placeCount, oldStart, oldLength, boundary, oldPlaces}
+use Rattle.card.specs.Layout.{word, blockSize, oldStart, oldLength, boundary, oldPlaces}
 use Rattle.card.specs.Sound.{judged}
 use Rattle.card.proofs.Facts.{Facts}
 use Rattle.update.specs.Step.{spent, configured, nextBoundary, grown, configuration, crowded}
 use Rattle.update.proofs.Configuration.{nextBoundary-on, mark-proper, fit-on, configuration-on, nextBoundary-end, fit-end, configuration-end}
-use Rattle.update.proofs.Configured.{Fit, configured-sound, configured-words, configured-size, configured-count, configured-term, configured-position, configured-boundary}
+use Rattle.update.proofs.Configured.{Fit, configured-sound, configured-words, configured-size, configured-term, configured-position, configured-boundary}
 use Rattle.update.proofs.Grown.{Remaining, Ready}
 
 -- what the configuration write sets
@@ -60,9 +60,6 @@ module _ (c r : List ℕ) (f : Facts c) (m : Remaining c r) (ready : 0 < length 
   -- with the same blocks and places,
   pub configuration-size : blockSize (configuration c r) ≡ blockSize c
   configuration-size = let s = settled in rw (s .is) (configured-size c (s .start) (s .old) (s .new) (nextBoundary c r) f)
-
-  pub configuration-count : placeCount (configuration c r) ≡ placeCount c
-  configuration-count = let s = settled in rw (s .is) (configured-count c (s .start) (s .old) (s .new) (nextBoundary c r) f)
 
   -- and the boundary set.
   pub configuration-term : word (configuration c r) 6 ≡ term (nextBoundary c r)

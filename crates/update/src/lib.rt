@@ -6,8 +6,7 @@ ghost use lib.Seq.{sets};
 ghost use Rattle.pair.specs.Tests.{same};
 ghost use Rattle.card.specs.Layout.{blockSize, oldLength};
 ghost use Rattle.card.specs.Sound.{judged};
-ghost use Rattle.update.specs.Span.{writeSpan};
-ghost use Rattle.update.specs.Step.{duePlace, configured, step};
+ghost use Rattle.update.specs.Step.{configured, step};
 ghost use Rattle.update.specs.Answer.{numberOf, writeOf, freedOf, finishedOf, answerOf};
 ghost use Rattle.update.specs.code.Outcome.{freedBy, configurationOf, outcome};
 use card::CONFIGURATION_WORDS;
@@ -162,18 +161,6 @@ fn settle(card: &mut [u32], due: Due, freed: u32, grown: u32) -> StepAnswer
     }
 }
 
-// The place that a block is due at.
-fn due_place(card: &[u32]) -> usize
-    requires { ⌜ judged (now card) ≡ 0 ⌝ }
-    ensures { λ r. ⌜ r ≡ duePlace (now (card .entry)) ⌝ }
-{
-    let places = card[2];
-    let start = card[3];
-    let old_length = card[4];
-    let new_length = card[5];
-    ((start + old_length + new_length) % places) as usize
-}
-
 // Makes the next write for a due block, or refuses.
 fn advance(card: &mut [u32], block: &[u32], due: Due) -> StepAnswer
     requires { ⌜ judged (now card) ≡ 0 ⌝ }
@@ -190,7 +177,7 @@ fn advance(card: &mut [u32], block: &[u32], due: Due) -> StepAnswer
     if places <= old_length - freed + (new_length + 1) {
         return StepAnswer::Refused(CROWDED);
     }
-    let place = due_place(card);
+    let place = ((card[3] + old_length + new_length) % places) as usize;
     let start = old::place_start(card, place);
     let end = start + block.len();
     if !same(&card[start..end], block) {
@@ -224,53 +211,4 @@ pub fn step(card: &mut [u32], batch: &[u32]) -> StepAnswer
     let mut buffer = [0u32; BLOCK_MOST];
     let due = due::fill(card, batch, &mut buffer[..size]);
     advance(card, &buffer[..size], due)
-}
-
-// The number of a card that is refused; where in the card a write stands and how many words it has.
-pub struct WriteSpan {
-    pub number: u32,
-    pub start: usize,
-    pub count: usize,
-}
-
-// Where a write of a step stands in the card that the step left; no words for a write that is none of the three, nor where the card is refused.
-pub fn write_span(card: &[u32], write: u32) -> WriteSpan
-    ensures { λ r. ⌜ r ≡ writeSpan (now (card .entry)) write ⌝ }
-{
-    let refusal = card::judge(card);
-    if refusal != 0 {
-        return WriteSpan {
-            number: refusal,
-            start: 0,
-            count: 0,
-        };
-    }
-    if write == 1 {
-        let place = due_place(card);
-        return WriteSpan {
-            number: 0,
-            start: old::place_start(card, place),
-            count: card[1] as usize,
-        };
-    }
-    if write == 2 {
-        let place = due_place(card);
-        return WriteSpan {
-            number: 0,
-            start: CONFIGURATION_WORDS + ENTRY_WIDTH * place,
-            count: ENTRY_WIDTH,
-        };
-    }
-    if write == 3 {
-        return WriteSpan {
-            number: 0,
-            start: 0,
-            count: CONFIGURATION_WORDS,
-        };
-    }
-    WriteSpan {
-        number: 0,
-        start: 0,
-        count: 0,
-    }
 }
