@@ -12,16 +12,16 @@ use Rattle.pair.specs.Rising.{risingFrom, last}
 use Rattle.pair.specs.Tests.{firstOf}
 use Rattle.pair.proofs.FirstOf.{passed}
 use Rattle.pair.proofs.Tests.{and-left, and-right}
-use Rattle.card.specs.Layout.{word, blockSize, placeCount, oldStart, oldLength, newLength, boundary, entryWidth, cardLength, inLimits, oldPlaces, newPlaces, pairsAt}
+use Rattle.card.specs.Layout.{format, widthOf, blockSize, placeCount, oldStart, oldLength, newLength, boundary, entryWidth, cardLength, inLimits, oldPlaces, newPlaces, pairsAt}
 use Rattle.card.specs.Sound.{blocksSound, firstReaches, boundaryWords, segmentsSound, judged}
 
 pub record Facts (c : List ℕ) : Type 0 where
-  pub format : word c 0 ≡ 1
+  pub known : format c ≡ 1
   pub sizeLow : 8 ≤ blockSize c
   pub sizeHigh : blockSize c ≤ 1024
   pub countLow : 2 ≤ placeCount c
   pub countHigh : placeCount c ≤ 1024
-  pub long : length c ≡ cardLength entryWidth (blockSize c) (placeCount c)
+  pub long : length c ≡ cardLength (entryWidth c) (blockSize c) (placeCount c)
   pub start : oldStart c < placeCount c
   pub room : oldLength c + newLength c < placeCount c
   pub boundWords : boundaryWords c ≡ true
@@ -48,13 +48,13 @@ facts c e =
     let p8 = passed _ _ _ (p7 .1) in
     gather c (not-false _ (p2 .0)) (not-false _ (p3 .0)) (not-false _ (p4 .0)) (not-false _ (p5 .0)) (p6 .0) (not-false _ (p7 .0)) (not-false _ (p8 .0))
   where
-    gather : (c : List ℕ) → eqb (word c 0) 1 ≡ true → inLimits (blockSize c) (placeCount c) ≡ true
-        → eqb (length c) (cardLength entryWidth (blockSize c) (placeCount c)) ≡ true → ltb (oldStart c) (placeCount c) ≡ true
+    gather : (c : List ℕ) → eqb (format c) 1 ≡ true → inLimits (blockSize c) (placeCount c) ≡ true
+        → eqb (length c) (cardLength (entryWidth c) (blockSize c) (placeCount c)) ≡ true → ltb (oldStart c) (placeCount c) ≡ true
         → ltb (placeCount c - 1) (oldLength c + newLength c) ≡ false → boundaryWords c ≡ true → segmentsSound c ≡ true → Facts c
     gather c a l e s r w g =
         let low : 2 ≤ placeCount c = search tests in
         record {
-          format = eqb-true _ _ a;
+          known = eqb-true _ _ a;
           sizeLow = search tests;
           sizeHigh = search tests;
           countLow = low;
@@ -78,7 +78,7 @@ sound c f =
     let l : 8 ≤ length c = omega (arith, f .long) in
     simp (
       le-ltb (length c) 8 l,
-      eq-eqb _ _ (f .format),
+      eq-eqb _ _ (f .known),
       le-leb _ _ (f .sizeLow),
       le-leb _ _ (f .sizeHigh),
       le-leb _ _ (f .countLow),
@@ -97,6 +97,7 @@ sound c f =
 
 -- Within the limits a card has at most 1,050,632 words.
 pub card-length : (c : List ℕ) → judged c ≡ 0 → length c ≤ 1050632
+unfolding widthOf
 card-length c e =
     let f = facts c e in
     omega (arith, f .long, f .countHigh, mul-le-mul (f .countHigh) (f .sizeHigh))

@@ -12,7 +12,7 @@ use Rattle.pair.specs.Rank.{Words}
 use Rattle.pair.specs.Rising.{above, keep, risingFrom, last}
 use Rattle.pair.proofs.FirstOf.{passed}
 use Rattle.pair.proofs.Tests.{and-left, and-right}
-use Rattle.card.specs.Layout.{word, boundary, entryWidth, cardLength, inLimits, around, oldPlaces, newPlaces, pairsAt, live, formatNumber, formatted}
+use Rattle.card.specs.Layout.{word, format, boundary, widthOf, cardLength, inLimits, around, oldPlaces, newPlaces, pairsAt, live, formatNumber, formatted}
 use Rattle.card.specs.Sound.{blocksSound, firstReaches, boundaryWords, judged}
 use Rattle.card.proofs.Facts.{sound}
 use Rattle.card.proofs.Parts.{part-sets-after, word-sets-same}
@@ -24,7 +24,7 @@ pub record Formattable (c : List ℕ) (b n : ℕ) : Type 0 where
   pub sizeHigh : b ≤ 1024
   pub countLow : 2 ≤ n
   pub countHigh : n ≤ 1024
-  pub long : length c ≡ cardLength entryWidth b n
+  pub long : length c ≡ cardLength (widthOf 1) b n
 
 ruleset tests = (and-left, and-right, not-false, leb-true, eqb-true)
 
@@ -35,7 +35,7 @@ formattable c b n e =
     let p2 = passed _ _ _ (p1 .1) in
     gather (not-false _ (p1 .0)) (not-false _ (p2 .0))
   where
-    gather : inLimits b n ≡ true → eqb (length c) (cardLength entryWidth b n) ≡ true → Formattable c b n
+    gather : inLimits b n ≡ true → eqb (length c) (cardLength (widthOf 1) b n) ≡ true → Formattable c b n
     gather l e = record { sizeLow = search tests; sizeHigh = search tests; countLow = search tests; countHigh = search tests; long = eqb-true _ _ e }
 
 -- A refused call of the formatter writes nothing.
@@ -59,6 +59,9 @@ module _ (c : List ℕ) (b n : ℕ) (e : formatNumber c b n ≡ 0) where
       let z : i ≡ 0 + i = omega arith in
       ap (λ d. getD d i 0) formatted-is ∙ ap (λ j. getD (sets c 0 (fresh b n)) j 0) z
       ∙ word-sets-same (fresh b n) c 0 i (omega (arith, f .long)) h
+
+  known : format (formatted c b n) ≡ 1
+  known = formatted-word 0 (omega arith)
 
   size : word (formatted c b n) 1 ≡ b
   size = formatted-word 1 (omega arith)
@@ -95,12 +98,12 @@ module _ (c : List ℕ) (b n : ℕ) (e : formatNumber c b n ≡ 0) where
   formatted-sound =
       let l : length (formatted c b n) ≡ length c = ap length formatted-is ∙ length-sets c 0 (fresh b n) in
       sound (formatted c b n) (record {
-        format = formatted-word 0 (omega arith);
+        known = known;
         sizeLow = rw size (f .sizeLow);
         sizeHigh = rw size (f .sizeHigh);
         countLow = rw count (f .countLow);
         countHigh = rw count (f .countHigh);
-        long = rw (size, count) (l ∙ f .long);
+        long = rw (known, size, count) (l ∙ f .long);
         start = rw (count, formatted-word 3 (omega arith)) (omega (arith, f .countLow));
         room = rw (count, formatted-old, formatted-new) (omega (arith, f .countLow));
         boundWords = rw (formatted-new, formatted-term, formatted-position);

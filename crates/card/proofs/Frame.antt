@@ -6,9 +6,9 @@ use native.Mathlib.Omega.{arith}
 use lib.ListN.{length, take}
 use lib.Seq.{getD-take}
 use Rattle.pair.specs.Rising.{Each}
-use Rattle.card.specs.Layout.{word, boundary, firstPair, place, oldPlaces, newPlaces, pairsAt, live}
+use Rattle.card.specs.Layout.{word, boundary, entry, firstPair, place, oldPlaces, newPlaces, pairsAt, live}
 use Rattle.card.specs.Sound.{blocksSound, firstReaches, boundaryWords, segmentsSound, judged}
-use Rattle.card.proofs.Parts.{entry, firstPair-entry}
+use Rattle.card.proofs.Parts.{firstPair-entry}
 
 -- the place and its map entry hold the same words on both cards
 pub record SameAt (c d : List ℕ) (i : ℕ) : Type 0 where

@@ -46,7 +46,7 @@ places-distinct c f =
     (around-distinct n (oldStart c) (oldLength c + (newLength c + 1)) (omega (arith, f .room)))
 
 -- Words written in a free place leave the card alike.
-pub alike-place : (c ws : List ℕ) (i : ℕ) → Free c i → length ws ≤ blockSize c → Alike c (sets c (placeAt entryWidth c i) ws)
+pub alike-place : (c ws : List ℕ) (i : ℕ) → Free c i → length ws ≤ blockSize c → Alike c (sets c (placeAt c i) ws)
 unfolding place
 alike-place c ws i f h =
     record {
@@ -57,20 +57,21 @@ alike-place c ws i f h =
     }
   where
     at : ℕ
-    at = placeAt entryWidth c i
+    at = placeAt c i
 
     same : (j : ℕ) → Apart c i j → SameAt c (sets c at ws) j
     same j a =
         record {
           block =
-              rw (word-sets-before ws c at 1 (omega arith), word-sets-before ws c at 2 (omega arith))
-              (part-sets-row ws c (blockSize c) (8 + entryWidth * placeCount c) j i _ _ (a .1) h refl refl);
+              rw (word-sets-before ws c at 0 (omega arith), word-sets-before ws c at 1 (omega arith), word-sets-before ws c at 2 (omega arith))
+              (part-sets-row ws c (blockSize c) (8 + entryWidth c * placeCount c) j i _ _ (a .1) h refl refl);
           mapped =
-              part-sets-before ws c entryWidth (entryAt entryWidth j) at (omega (arith, mul-le-mul-left {m = suc j} entryWidth (a .0)));
+              rw (word-sets-before ws c at 0 (omega arith))
+              (part-sets-before ws c (entryWidth c) (entryAt c j) at (omega (arith, mul-le-mul-left {m = suc j} (entryWidth c) (a .0))));
         }
 
 -- Words written in its map entry do too.
-pub alike-entry : (c ws : List ℕ) (i : ℕ) → Free c i → length ws ≤ entryWidth → Alike c (sets c (entryAt entryWidth i) ws)
+pub alike-entry : (c ws : List ℕ) (i : ℕ) → Free c i → length ws ≤ entryWidth c → Alike c (sets c (entryAt c i) ws)
 unfolding place
 alike-entry c ws i f h =
     record {
@@ -81,13 +82,15 @@ alike-entry c ws i f h =
     }
   where
     at : ℕ
-    at = entryAt entryWidth i
+    at = entryAt c i
 
     same : (j : ℕ) → Apart c i j → SameAt c (sets c at ws) j
     same j a =
         record {
           block =
-              rw (word-sets-before ws c at 1 (omega arith), word-sets-before ws c at 2 (omega arith))
-              (ap (take (blockSize c)) (part-sets-after ws c (placeAt entryWidth c j) at (omega (arith, h, mul-le-mul-left {m = suc i} entryWidth (f .inside)))));
-          mapped = part-sets-row ws c entryWidth 8 j i (entryAt entryWidth j) at (a .1) h (omega arith) (omega arith);
+              rw (word-sets-before ws c at 0 (omega arith), word-sets-before ws c at 1 (omega arith), word-sets-before ws c at 2 (omega arith))
+              (ap (take (blockSize c)) (part-sets-after ws c (placeAt c j) at (omega (arith, h, mul-le-mul-left {m = suc i} (entryWidth c) (f .inside)))));
+          mapped =
+              rw (word-sets-before ws c at 0 (omega arith))
+              (part-sets-row ws c (entryWidth c) 8 j i (entryAt c j) at (a .1) h (omega arith) (omega arith));
         }

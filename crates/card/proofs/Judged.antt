@@ -10,20 +10,18 @@ use Rattle.pair.specs.Rising.{risingFrom, last}
 use Rattle.pair.specs.Tests.{firstOf}
 use Rattle.pair.proofs.FirstOf.{passed, firstOf-early, firstOf-append, firstOf-all-pass}
 use Rattle.card.specs.declared.SegmentScan.{SegmentScan}
-use Rattle.card.specs.Layout.{placeCount, oldStart, oldLength, newLength, boundary, oldPlaces, newPlaces, pairsAt}
+use Rattle.card.specs.declared.layout.Configuration.{Configuration}
+use Rattle.card.specs.Layout.{placeCount, oldLength, newLength, boundary, oldPlaces, newPlaces, pairsAt}
 use Rattle.card.specs.Sound.{blocksSound, firstReaches, configurationConditions, segmentsSound, judged}
-use Rattle.card.specs.code.Scan.{Shaped, segmentSound, segmentScanned}
+use Rattle.card.specs.code.Configuration.{ConfigurationOf}
+use Rattle.card.specs.code.Scan.{Ordered, segmentSound, segmentScanned}
 use Rattle.card.proofs.Judging.{tested}
 use Rattle.card.proofs.Limits.{limits}
+use Rattle.card.proofs.Ordered.{ordered}
 
--- what a configuration in order says
-pub record Configured (c : List ℕ) : Type 0 where
-  pub shaped : Shaped c
-  pub start : oldStart c < placeCount c
-  pub room : oldLength c + newLength c < placeCount c
-
-pub configured : (c : List ℕ) → firstOf (configurationConditions c) ≡ 0 → Configured c
-configured c e =
+-- a configuration in order, by value
+pub configured : {c : List ℕ} {k : Configuration} → firstOf (configurationConditions c) ≡ 0 → ConfigurationOf c k → Ordered c k
+configured {c} {k} e r =
     let p1 = passed _ _ _ e in
     let p2 = passed _ _ _ (p1 .1) in
     let p3 = passed _ _ _ (p2 .1) in
@@ -31,11 +29,11 @@ configured c e =
     let p5 = passed _ _ _ (p4 .1) in
     let p6 = passed _ _ _ (p5 .1) in
     let l = limits _ _ (not-false _ (p3 .0)) in
-    record {
-      shaped = record { sizeHigh = l .sizeHigh; countLow = l .countLow; countHigh = l .countHigh; long = eqb-true _ _ (not-false _ (p4 .0)) };
-      start = ltb-true _ _ (not-false _ (p5 .0));
-      room = omega (arith, ltb-false (placeCount c - 1) (oldLength c + newLength c) (p6 .0));
-    }
+    ordered
+    (record { sizeHigh = l .sizeHigh; countLow = l .countLow; countHigh = l .countHigh; long = eqb-true _ _ (not-false _ (p4 .0)) })
+    (ltb-true _ _ (not-false _ (p5 .0)))
+    (omega (arith, ltb-false (placeCount c - 1) (oldLength c + newLength c) (p6 .0)))
+    r
 
 -- a number of the configuration is the judge's
 pub judged-early : (c : List ℕ) (n : ℕ) → n ≡ firstOf (configurationConditions c) → (n ≡ 0 → ⊥) → n ≡ judged c

@@ -16,7 +16,7 @@ use Rattle.block.specs.code.Scan.{scanned}
 use Rattle.block.specs.declared.BlockScan.{BlockScan}
 use Rattle.block.proofs.Reading.{formed-rising, formed-some}
 use Rattle.card.proofs.Live.{place-words}
-use Rattle.card.specs.Layout.{oldStart, oldLength, oldPlaces, placeCount, blockSize, entryWidth, placeAt, firstPair, place, around, pairsAt}
+use Rattle.card.specs.Layout.{oldStart, oldLength, oldPlaces, placeCount, firstPair, place, around, pairsAt}
 use Rattle.card.specs.Sound.{liveBlock, blocksSound, firstReaches}
 use Rattle.card.specs.code.Scan.{blockScanned, segmentSound, segmentScanned}
 
@@ -24,13 +24,6 @@ use Rattle.card.specs.code.Scan.{blockScanned, segmentSound, segmentScan
 pub tested : (f : Bool) (t : ℕ → Bool) (g : ℕ) → (f && t (cond f g 0)) ≡ (f && t g)
 tested true t g = refl
 tested false t g = refl
-
--- a place as the part of the card that the code takes
-pub place-part : (c : List ℕ) (i : ℕ) → take (placeAt entryWidth c i + blockSize c - placeAt entryWidth c i) (drop (placeAt entryWidth c i) c) ≡ place c i
-unfolding place
-place-part c i =
-    let e : placeAt entryWidth c i + blockSize c - placeAt entryWidth c i ≡ blockSize c = omega arith in
-    rw e
 
 -- a block that is well formed and has its first pair in the map
 pub scanned-live :

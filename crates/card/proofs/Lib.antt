@@ -7,4 +7,5 @@ pub mod Judged
 pub mod Judging
 pub mod Limits
 pub mod Live
+pub mod Ordered
 pub mod Parts

@@ -15,7 +15,7 @@ use Rattle.pair.proofs.Rising.{rising-head, rising-first, rising-join, rising-a
 use Rattle.pair.proofs.Parts.{above-append, atMost-append, atMost-all, above-none, above-above, atMost-above-none}
 use Rattle.block.specs.Block.{pairs, formed}
 use Rattle.block.proofs.Reading.{formed-proper, formed-some}
-use Rattle.card.specs.Layout.{blockSize, boundary, entryWidth, placeAt, firstPair, place, oldPlaces, newPlaces, pairsAt, live}
+use Rattle.card.specs.Layout.{blockSize, boundary, placeAt, firstPair, place, oldPlaces, newPlaces, pairsAt, live}
 use Rattle.card.specs.Sound.{blocksSound, firstReaches}
 use Rattle.pair.proofs.Words.{words-take, words-drop}
 use Rattle.card.proofs.Facts.{Facts}
@@ -34,7 +34,7 @@ blocksSound-append c (i ∷ is) js = rw (blocksSound-append c is js) (sym (and-a
 
 pub place-words : (c : List ℕ) (i : ℕ) → Words c → Words (place c i)
 unfolding place
-place-words c i w = words-take (blockSize c) (drop (placeAt entryWidth c i) c) (words-drop (placeAt entryWidth c i) c w)
+place-words c i w = words-take (blockSize c) (drop (placeAt c i) c) (words-drop (placeAt c i) c w)
 
 ruleset tests = (and-left, and-right)
 

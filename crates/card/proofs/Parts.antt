@@ -3,7 +3,7 @@ use Prim.Native.Nat.{ℕ, suc, _+_, _*_, _-_, _≤_, _<_}
 use mathlib.Core.Path.{_≡_, refl, sym, _∙_, ap}
 use mathlib.Core.Bool.{Bool, true, false}
 use mathlib.Core.List.{List, [], _∷_, _++_, append-assoc}
-use native.Mathlib.Nat.{add-zero, mul-le-mul-right}
+use native.Mathlib.Nat.{add-zero, mul-le-mul, mul-le-mul-left, mul-le-mul-right}
 use native.Mathlib.Numerals.{add-one}
 use native.Mathlib.Omega.{arith}
 use lib.ListN.{length, take, drop, getD, set, length-take, length-drop}
@@ -11,7 +11,7 @@ use lib.Seq.{sets, sets-eq, take-suc, take-set-le, drop-set-add, drop-set-lt, ta
 use lib.Dec.{ltb}
 use borrow.Author.Tests.{ltb-true, ltb-false}
 use Rattle.pair.specs.Rank.{rank}
-use Rattle.card.specs.Layout.{blockSize, placeCount, entryWidth, entryAt, placeAt, firstPair}
+use Rattle.card.specs.Layout.{format, widthOf, blockSize, placeCount, entryWidth, entryAt, entry, placeAt, firstPair}
 use Rattle.card.specs.code.Scan.{Shaped}
 
 pub length-part : (c : List ℕ) (a n : ℕ) → a + n ≤ length c → length (take n (drop a c)) ≡ n
@@ -75,17 +75,32 @@ part-sets-row ws l w o i j a p d h ea ep = go (ltb i j) refl
         ap (take w) (part-sets-after ws l a p (omega (arith, mul-le-mul-right {n = i} w below)))
 
 -- The place lies in the card.
-pub place-inside : (c : List ℕ) (i : ℕ) → Shaped c → i < placeCount c → placeAt entryWidth c i + blockSize c ≤ length c
+pub place-inside : (c : List ℕ) (i : ℕ) → Shaped c → i < placeCount c → placeAt c i + blockSize c ≤ length c
 place-inside c i s h = omega (arith, s .long, mul-le-mul-right (blockSize c) h)
 
--- the words of a map entry
-abbrev pub entry : List ℕ → ℕ → List ℕ
-entry c i = take entryWidth (drop (entryAt entryWidth i) c)
+-- A map entry has two words at least, and four at most.
+pub width-low : (f : ℕ) → 2 ≤ widthOf f
+unfolding widthOf
+width-low f = omega arith
 
--- The map's pair is read from them.
+pub width-high : (f : ℕ) → widthOf f ≤ 4
+unfolding widthOf
+width-high f = omega arith
+
+-- The map entry lies in the card.
+pub entry-inside : (c : List ℕ) (i : ℕ) → Shaped c → i < placeCount c → entryAt c i + entryWidth c ≤ length c
+entry-inside c i s h = omega (arith, s .long, mul-le-mul-left {m = suc i} (entryWidth c) h)
+
+-- The map's pair is read from its words.
 pub firstPair-entry : (c : List ℕ) (i : ℕ) → firstPair c i ≡ rank (getD (entry c i) 0 0) (getD (entry c i) 1 0)
 unfolding firstPair
 firstPair-entry c i =
-    let a = entryAt entryWidth i in
+    let a = entryAt c i in
+    let w = entryWidth c in
     let z : a + 0 ≡ a = omega arith in
-    rw (getD-take entryWidth (drop a c) 0 0 (omega arith), getD-take entryWidth (drop a c) 1 0 (omega arith), getD-drop a c 0 0, getD-drop a c 1 0, z)
+    let two : 2 ≤ w = width-low (format c) in
+    rw (getD-take w (drop a c) 0 0 (omega arith), getD-take w (drop a c) 1 0 (omega arith), getD-drop a c 0 0, getD-drop a c 1 0, z)
+
+-- A product of a number of 16 bits and one of 32 is far from the end of a machine word.
+pub product-fits : (a b : ℕ) → a < 65536 → b < 4294967296 → a * b < 281474976710656
+product-fits a b h k = omega (arith, mul-le-mul {n₁ = a} {m₁ = b} {n₂ = 65535} {m₂ = 4294967295} (omega arith) (omega arith))

@@ -4,12 +4,16 @@ ghost use mathlib.Core.Bool.{cond, _&&_};
 ghost use Prim.Native.Nat.{_≤_, _<_};
 ghost use lib.Dec.{ltb, eqb};
 ghost use Rattle.pair.specs.Tests.{firstOf};
-ghost use Rattle.card.specs.Layout.{placeCount, oldStart, oldLength, entryWidth, cardLength, inLimits, around, oldPlaces, formatNumber, formatted};
+ghost use Rattle.card.specs.Layout.{widthOf, placeCount, oldPlaces, cardLength, inLimits, around, formatNumber, formatted};
 ghost use Rattle.card.specs.Sound.{firstReaches, configurationConditions, judged};
-ghost use Rattle.card.specs.code.Scan.{Shaped, blockScanned, segmentSound, segmentScanned};
+ghost use Rattle.card.specs.code.Configuration.{ConfigurationOf};
+ghost use Rattle.card.specs.code.Scan.{Ordered, blockScanned, segmentSound, segmentScanned};
 use block::BlockScan;
 use block::UNFORMED;
-use pair::Pair;
+use layout::CONFIGURATION_WORDS;
+use layout::Configuration;
+
+pub mod layout; // where the parts of a card stand
 
 const FORMAT: u32 = 1;
 
@@ -23,12 +27,6 @@ const BAD_CONFIGURATION: u32 = 3;
 const BAD_BLOCKS: u32 = 4;
 
 const OUTSIDE_LIMITS: u32 = 5;
-
-// The words before the map.
-pub const CONFIGURATION_WORDS: usize = 8;
-
-// The words of a map entry.
-pub const ENTRY_WIDTH: usize = 2;
 
 const BLOCK_SIZE_LEAST: u32 = 8;
 
@@ -48,12 +46,13 @@ fn in_limits(b: u32, n: u32) -> bool
         & (n <= PLACE_COUNT_MOST)
 }
 
-// The words of a card.
-fn card_length(b: u32, n: u32) -> usize
+// The words of a card of a format.
+fn card_length(format: u32, b: u32, n: u32) -> usize
     requires { ⌜ (b ≤ 1024) × (n ≤ 1024) ⌝ }
-    ensures { λ r. ⌜ r ≡ cardLength entryWidth b n ⌝ }
+    ensures { λ r. ⌜ r ≡ cardLength (widthOf format) b n ⌝ }
 {
-    CONFIGURATION_WORDS + ENTRY_WIDTH * n as usize + n as usize * b as usize
+    let width = layout::width_of(format);
+    CONFIGURATION_WORDS + width as usize * n as usize + n as usize * b as usize
 }
 
 // Writes the configuration of an empty card, and nothing else.
@@ -63,7 +62,7 @@ pub fn format(card: &mut [u32], b: u32, n: u32) -> u32
     if !in_limits(b, n) {
         return OUTSIDE_LIMITS;
     }
-    if card.len() != card_length(b, n) {
+    if card.len() != card_length(FORMAT, b, n) {
         return WRONG_LENGTH;
     }
     card[0] = FORMAT;
@@ -94,7 +93,8 @@ fn configuration_number(card: &[u32]) -> u32
     if card.len() < CONFIGURATION_WORDS {
         return WRONG_LENGTH;
     }
-    if card[0] != FORMAT {
+    let format = card[0];
+    if format != FORMAT {
         return UNKNOWN_FORMAT;
     }
     let b = card[1];
@@ -102,7 +102,7 @@ fn configuration_number(card: &[u32]) -> u32
     if !in_limits(b, n) {
         return BAD_CONFIGURATION;
     }
-    if card.len() != card_length(b, n) {
+    if card.len() != card_length(format, b, n) {
         return WRONG_LENGTH;
     }
     if n <= card[3] {
@@ -131,37 +131,26 @@ const UNSOUND: SegmentScan = SegmentScan {
 };
 
 // Scans the block at a place and compares its first pair with the map.
-fn scan_place(card: &[u32], i: usize) -> BlockScan
-    requires { ⌜ Shaped (now card) ⌝ }
-    requires { ⌜ i < placeCount (now card) ⌝ }
+fn scan_place(card: &[u32], i: u16) -> BlockScan
     ensures { λ r. ⌜ r ≡ blockScanned (now (card .entry)) i ⌝ }
 {
-    let size = card[1] as usize;
-    let start = CONFIGURATION_WORDS + ENTRY_WIDTH * card[2] as usize + i * size;
-    let end = start + size;
-    let block = block::scan(&card[start..end]);
-    let entry = CONFIGURATION_WORDS + ENTRY_WIDTH * i;
-    let mapped = Pair {
-        term: card[entry],
-        position: card[entry + 1],
-    };
-    if block.formed & (mapped.rank() == block.first) {
+    let block = block::scan(layout::place(card, i));
+    let mapped = layout::first_pair(card, i);
+    if block.formed & (mapped == block.first) {
         return block;
     }
     UNFORMED
 }
 
 // Scans len places from start, around the circle, whose pairs are to rise above the rank after.
-fn scan_segment(card: &[u32], start: usize, len: usize, after: u64) -> SegmentScan
-    requires { ⌜ Shaped (now card) ⌝ }
-    requires { ⌜ (start ≤ 2048) × (len ≤ 1024) ⌝ }
+fn scan_segment(card: &[u32], k: Configuration, start: u16, len: u16, after: u64) -> SegmentScan
+    requires { ⌜ Ordered (now card) k ⌝ }
     ensures { λ r. ⌜ r ≡ segmentScanned (now (card .entry)) after (around (placeCount (now (card .entry))) start len) ⌝ }
 {
-    let places = card[2] as usize;
     let mut last = after;
-    let mut j: usize = 0;
+    let mut j: u16 = 0;
     while j < len {
-        let block = scan_place(card, (start + j) % places);
+        let block = scan_place(card, k.place_on(start, j));
         let rises = last < block.first;
         if !(block.formed & rises) {
             return UNSOUND;
@@ -173,21 +162,20 @@ fn scan_segment(card: &[u32], start: usize, len: usize, after: u64) -> SegmentSc
 }
 
 // Whether the old segment is sound and rises, and its first block reaches above the boundary.
-fn old_is_sound(card: &[u32], boundary: u64) -> bool
-    requires { ⌜ Shaped (now card) ⌝ }
-    requires { ⌜ (oldStart (now card) < placeCount (now card)) × (oldLength (now card) < placeCount (now card)) ⌝ }
-    ensures { λ r. ⌜ r ≡ (segmentSound (now (card .entry)) 0 (oldPlaces (now (card .entry))) && firstReaches (now (card .entry)) boundary (oldPlaces (now (card .entry)))) ⌝ }
+fn old_is_sound(card: &[u32], k: Configuration) -> bool
+    requires { ⌜ Ordered (now card) k ⌝ }
+    ensures { λ r. ⌜ r ≡ (segmentSound (now (card .entry)) 0 (oldPlaces (now (card .entry))) && firstReaches (now (card .entry)) (k .boundary) (oldPlaces (now (card .entry)))) ⌝ }
 {
-    let start = card[3] as usize;
-    let len = card[4] as usize;
+    let start = k.old_start;
+    let len = k.old_length;
     if len == 0 {
         return true;
     }
     let first = scan_place(card, start);
-    if !(first.formed & (boundary < first.last)) {
+    if !(first.formed & (k.boundary < first.last)) {
         return false;
     }
-    let rest = scan_segment(card, start + 1, len - 1, first.last);
+    let rest = scan_segment(card, k, k.place_on(start, 1), len - 1, first.last);
     rest.sound
 }
 
@@ -199,17 +187,12 @@ pub fn judge(card: &[u32]) -> u32
     if number != 0 {
         return number;
     }
-    let start = card[3] as usize + card[4] as usize;
-    let new = scan_segment(card, start, card[5] as usize, 0);
-    let bound = Pair {
-        term: card[6],
-        position: card[7],
-    };
-    let boundary = bound.rank();
-    if !(new.sound & (new.last == boundary)) {
+    let k = Configuration::of(card);
+    let new = scan_segment(card, k, k.new_start(), k.new_length, 0);
+    if !(new.sound & (new.last == k.boundary)) {
         return BAD_BLOCKS;
     }
-    if !old_is_sound(card, boundary) {
+    if !old_is_sound(card, k) {
         return BAD_BLOCKS;
     }
     0

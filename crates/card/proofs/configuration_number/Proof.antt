@@ -29,13 +29,13 @@ q2 c = eq-eqb _ _ (c .if2 .left)
 q3 : (c : tie.Else3) → inLimits (blockSize (W (c .before .before .before .before .before .before .before .before))) (placeCount (W (c .before .before .before .before .before .before .before .before))) ≡ true
 q3 c = sym (c .before .in-limits .ensures) ∙ not-false _ (c .if3 .left)
 
-q4 : (c : tie.Else4) → eqb (length (W (c .before .before .before .before .before .before .before .before .before .before))) (cardLength entryWidth (blockSize (W (c .before .before .before .before .before .before .before .before .before .before))) (placeCount (W (c .before .before .before .before .before .before .before .before .before .before)))) ≡ true
+q4 : (c : tie.Else4) → eqb (length (W (c .before .before .before .before .before .before .before .before .before .before))) (cardLength (entryWidth (W (c .before .before .before .before .before .before .before .before .before .before))) (blockSize (W (c .before .before .before .before .before .before .before .before .before .before))) (placeCount (W (c .before .before .before .before .before .before .before .before .before .before)))) ≡ true
 q4 c = eq-eqb _ _ (c .if4 .left ∙ c .before .card-length .ensures)
 
 -- all but the last
 six :
     (c : List ℕ) → ltb (length c) 8 ≡ false → eqb (word c 0) 1 ≡ true → inLimits (blockSize c) (placeCount c) ≡ true →
-    eqb (length c) (cardLength entryWidth (blockSize c) (placeCount c)) ≡ true → ltb (oldStart c) (placeCount c) ≡ true →
+    eqb (length c) (cardLength (entryWidth c) (blockSize c) (placeCount c)) ≡ true → ltb (oldStart c) (placeCount c) ≡ true →
     ltb (placeCount c - 1) (oldLength c + newLength c) ≡ false → (b : Bool) → b ≡ boundaryWords c → cond b 0 3 ≡ firstOf (configurationConditions c)
 unfolding firstOf
 six c a b d e f g true h = simp (a, b, d, e, f, g, ← h)
@@ -55,8 +55,8 @@ returns : tie.Need-returns
 unfolding firstOf
 returns c = simp (lt-ltb _ _ (c .if1 .taken))
 
-shared-slice-read-if2 : tie.Need-shared-slice-read-if2
-shared-slice-read-if2 c = search needs
+shared-slice-read-format : tie.Need-shared-slice-read-format
+shared-slice-read-format c = search needs
 
 returns-2 : tie.Need-returns-2
 unfolding firstOf
@@ -117,7 +117,7 @@ sub-most : tie.Need-sub-most
 sub-most c = search needs
 
 cast-most : tie.Need-cast-most
-cast-most c = search needs
+cast-most c = omega (arith, c .shared-slice-known8 .given 2)
 
 returns-6 : tie.Need-returns-6
 unfolding firstOf
@@ -151,7 +151,7 @@ configuration-number-spec =
     tie.close
     (tie.spec
     returns
-    shared-slice-read-if2
+    shared-slice-read-format
     returns-2
     shared-slice-read-b
     shared-slice-read-n

@@ -1,14 +1,16 @@
 -- `card::judge` meets its contract: the configuration's number comes first, then 4 where the new or the old segment is not sound.
 use Prim.Native.Nat.{ℕ}
-use native.Mathlib.Omega.{arith}
-use mathlib.Core.Path.{_≡_, sym, _∙_}
+use mathlib.Core.Path.{_≡_, sym, ap, _∙_}
 use mathlib.Core.Bool.{cond}
 use mathlib.Core.List.{List}
 use denote.Ref.{now}
 use borrow.Author.Tests.{not-true, not-false}
-use Rattle.card.specs.Sound.{configurationConditions, judged}
 use Rattle.pair.specs.Tests.{firstOf}
-use Rattle.card.proofs.Judged.{Configured, configured, judged-early, judged-new, judged-old}
+use Rattle.card.specs.Layout.{oldStart, oldLength, newLength, newPlaces}
+use Rattle.card.specs.Sound.{configurationConditions, judged}
+use Rattle.card.specs.code.Scan.{Ordered, segmentScanned}
+use Rattle.card.proofs.Judged.{configured, judged-early, judged-new, judged-old}
+use Rattle.card.proofs.Ordered.{around-on}
 use borrow.Author.Needs.{needs}
 use Rattle.card.proofs.judge.Statement.{statement}
 use Rattle.card.proofs.judge.Tie as tie
@@ -17,11 +19,23 @@ abbrev W : tie.Start → List ℕ
 W s = now (s .args .card)
 
 -- past the first test the configuration is in order
-ordered : (c : tie.Else1) → firstOf (configurationConditions (W (c .before .before .before))) ≡ 0
-ordered c = sym (c .before .configuration-number .ensures) ∙ c .if1 .left
+in-order : (c : tie.Else1) → firstOf (configurationConditions (W (c .before .before .before))) ≡ 0
+in-order c = sym (c .before .configuration-number .ensures) ∙ c .if1 .left
 
-shape : (c : tie.Else1) → Configured (W (c .before .before .before))
-shape c = configured _ (ordered c)
+shape : (c : tie.After-of) → Ordered (W (c .before .before .before .before)) (c .of .result)
+shape c = configured (in-order (c .before)) (c .of .ensures)
+
+-- the new segment is scanned
+scanned : (c : tie.After-scan-segment) → let w = W (c .before .before .before .before .before .before) in c .scan-segment .result ≡ segmentScanned w 0 (newPlaces w)
+scanned c =
+    let o = shape (c .before .before) in
+    let w = W (c .before .before .before .before .before .before) in
+    c .scan-segment .ensures ∙ ap (segmentScanned w 0) (rw (c .before .new-start .ensures, o .ofStart, o .ofOld, o .ofNew) (around-on o (oldStart w) (oldLength w) (newLength w)))
+
+whole : (c : tie.After-old-is-sound) → cond (c .old-is-sound .result) 0 4 ≡ judged (W (c .before .before .before .before .before .before .before .before .before .before .before))
+whole c =
+    let n = c .before .before .before .before .before in
+    judged-old _ (in-order (n .before .before .before)) (n .scan-segment .result) (scanned n) _ (shape (n .before .before) .ofBoundary) (not-false _ (c .before .if2 .left)) (c .old-is-sound .result) (c .old-is-sound .ensures)
 
 configuration-number-requires : tie.Need-configuration-number-requires
 configuration-number-requires c κs = search needs
@@ -29,53 +43,21 @@ configuration-number-requires c κs = search needs
 returns : tie.Need-returns
 returns c = judged-early _ _ (c .before .configuration-number .ensures) (c .if1 .taken)
 
-shared-slice-read-start : tie.Need-shared-slice-read-start
-shared-slice-read-start c = omega (arith, shape (c .before))
+of-requires : tie.Need-of-requires
+of-requires c κs = search needs
 
-cast-start : tie.Need-cast-start
-cast-start c = omega (arith, c .shared-slice-known2 .given 3)
-
-shared-slice-read-start-2 : tie.Need-shared-slice-read-start-2
-shared-slice-read-start-2 c = omega (arith, shape (c .before .before))
-
-cast-start-2 : tie.Need-cast-start-2
-cast-start-2 c = omega (arith, c .shared-slice-known3 .given 4)
-
-add-start : tie.Need-add-start
-add-start c = omega (arith, c .before .shared-slice-known2 .given 3, c .shared-slice-known3 .given 4)
-
-shared-slice-read-scan-segment : tie.Need-shared-slice-read-scan-segment
-shared-slice-read-scan-segment c = omega (arith, shape (c .before .before .before))
-
-cast-scan-segment : tie.Need-cast-scan-segment
-cast-scan-segment c = omega (arith, c .shared-slice-known4 .given 5)
+new-start-requires : tie.Need-new-start-requires
+new-start-requires c κs = search needs
 
 scan-segment-requires : tie.Need-scan-segment-requires
-scan-segment-requires c κs = let f = shape (c .before .before .before) in (f .shaped, (omega arith, omega arith))
-
-shared-slice-read-t12 : tie.Need-shared-slice-read-t12
-shared-slice-read-t12 c = omega (arith, shape (c .before .before .before .before .before))
-
-shared-slice-read-t9 : tie.Need-shared-slice-read-t9
-shared-slice-read-t9 c = omega (arith, shape (c .before .before .before .before .before .before))
-
-rank-requires : tie.Need-rank-requires
-rank-requires c κs = search needs
-
-whole : (c : tie.After-old-is-sound) → cond (c .old-is-sound .result) 0 4 ≡ judged (W (c .before .before .before .before .before .before .before .before .before .before .before .before .before .before))
-whole c =
-    let r = c .before .before .before .before in
-    let n = r .before .before .before in
-    judged-old _ (ordered (n .before .before .before .before)) (n .scan-segment .result) (n .scan-segment .ensures) _ (r .rank .ensures) (not-false _ (c .before .if2 .left)) (c .old-is-sound .result) (c .old-is-sound .ensures)
+scan-segment-requires c κs = shape (c .before)
 
 returns-2 : tie.Need-returns-2
-returns-2 c =
-    let r = c .before .before .before in
-    let n = r .before .before .before in
-    judged-new _ (ordered (n .before .before .before .before)) (n .scan-segment .result) (n .scan-segment .ensures) _ (r .rank .ensures) (not-true _ (c .if2 .taken))
+returns-2 c = let n = c .before .before .before .before in
+    judged-new _ (in-order (n .before .before .before)) (n .scan-segment .result) (scanned n) _ (shape (n .before .before) .ofBoundary) (not-true _ (c .if2 .taken))
 
 old-is-sound-requires : tie.Need-old-is-sound-requires
-old-is-sound-requires c κs = let f = shape (c .before .before .before .before .before .before .before .before .before .before) in (f .shaped, (f .start, omega arith))
+old-is-sound-requires c κs = shape (c .before .before .before .before .before .before)
 
 returns-3 : tie.Need-returns-3
 returns-3 c = rw (not-true (c .before .old-is-sound .result) (c .if3 .taken)) at (whole (c .before))
@@ -89,17 +71,9 @@ judge-spec =
     (tie.spec
     configuration-number-requires
     returns
-    shared-slice-read-start
-    cast-start
-    shared-slice-read-start-2
-    cast-start-2
-    add-start
-    shared-slice-read-scan-segment
-    cast-scan-segment
+    of-requires
+    new-start-requires
     scan-segment-requires
-    shared-slice-read-t12
-    shared-slice-read-t9
-    rank-requires
     returns-2
     old-is-sound-requires
     returns-3

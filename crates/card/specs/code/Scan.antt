@@ -1,5 +1,5 @@
 -- What the judge's walk over live blocks tells.
-use Prim.Native.Nat.{ℕ, _≤_}
+use Prim.Native.Nat.{ℕ, _+_, _≤_, _<_}
 use mathlib.Core.Path.{_≡_}
 use mathlib.Core.Bool.{Bool, cond, _&&_}
 use mathlib.Core.List.{List}
@@ -8,7 +8,8 @@ use Rattle.pair.specs.Rising.{risingFrom, last}
 use Rattle.block.specs.Block.{pairs, formed}
 use Rattle.block.specs.declared.BlockScan.{BlockScan}
 use Rattle.card.specs.declared.SegmentScan.{SegmentScan}
-use Rattle.card.specs.Layout.{blockSize, placeCount, entryWidth, cardLength, place, pairsAt}
+use Rattle.card.specs.declared.layout.Configuration.{Configuration}
+use Rattle.card.specs.Layout.{blockSize, placeCount, oldStart, oldLength, newLength, boundary, entryWidth, cardLength, place, pairsAt}
 use Rattle.card.specs.Sound.{liveBlock, blocksSound}
 
 -- the block size and the count of places are within their limits, and the card has the length that they give
@@ -16,7 +17,19 @@ pub record Shaped (c : List ℕ) : Type 0 where
   pub sizeHigh : blockSize c ≤ 1024
   pub countLow : 2 ≤ placeCount c
   pub countHigh : placeCount c ≤ 1024
-  pub long : length c ≡ cardLength entryWidth (blockSize c) (placeCount c)
+  pub long : length c ≡ cardLength (entryWidth c) (blockSize c) (placeCount c)
+
+-- the configuration words are in order, and the configuration by value says what they say
+pub record Ordered (c : List ℕ) (k : Configuration) : Type 0 where
+  pub shaped : Shaped c
+  pub ofSize : k .size ≡ blockSize c
+  pub ofPlaces : k .places ≡ placeCount c
+  pub ofStart : k .«old_start» ≡ oldStart c
+  pub ofOld : k .«old_length» ≡ oldLength c
+  pub ofNew : k .«new_length» ≡ newLength c
+  pub ofBoundary : k .boundary ≡ boundary c
+  pub start : oldStart c < placeCount c
+  pub room : oldLength c + newLength c < placeCount c
 
 unfoldable pub blockScanned : List ℕ → ℕ → BlockScan
 blockScanned c i =

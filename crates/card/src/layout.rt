@@ -1,0 +1,132 @@
+// Where the parts of a card stand: its configuration read once, its map entries and its places. Every function takes any words whatever.
+ghost use mathlib.Core.Path.{_≡_};
+ghost use Rattle.card.specs.Layout.{word, widthOf, entryAt, firstPair, placeAt, place};
+ghost use Rattle.card.specs.code.Configuration.{short, ConfigurationOf, placeOn};
+use pair::Pair;
+
+// The words before the map.
+pub const CONFIGURATION_WORDS: usize = 8;
+
+// What the configuration words say. A field of 16 bits is its word's remainder by 65,536: of a sound card, the word.
+pub struct Configuration {
+    pub size: u16,
+    pub places: u16,
+    pub old_start: u16,
+    pub old_length: u16,
+    pub new_length: u16,
+    pub boundary: u64,
+}
+
+// A word of a card, 0 beyond its end.
+fn word(card: &[u32], at: usize) -> u32
+    ensures { λ r. ⌜ r ≡ word (now (card .entry)) at ⌝ }
+{
+    if at < card.len() {
+        return card[at];
+    }
+    0
+}
+
+fn short(card: &[u32], at: usize) -> u16
+    ensures { λ r. ⌜ r ≡ short (word (now (card .entry)) at) ⌝ }
+{
+    (word(card, at) % 65536) as u16
+}
+
+impl Configuration {
+    pub fn of(card: &[u32]) -> Configuration
+        ensures { λ r. ⌜ ConfigurationOf (now (card .entry)) r ⌝ }
+    {
+        let boundary = Pair {
+            term: word(card, 6),
+            position: word(card, 7),
+        };
+        Configuration {
+            size: short(card, 1),
+            places: short(card, 2),
+            old_start: short(card, 3),
+            old_length: short(card, 4),
+            new_length: short(card, 5),
+            boundary: boundary.rank(),
+        }
+    }
+
+    // The place j places on from a place, around the circle; 0 where there are no places.
+    pub fn place_on(self, start: u16, j: u16) -> u16
+        ensures { λ r. ⌜ r ≡ placeOn (self .places) start j ⌝ }
+    {
+        let places = self.places as u32;
+        if places == 0 {
+            return 0;
+        }
+        ((start as u32 + j as u32) % places) as u16
+    }
+
+    // The first place of the new segment.
+    pub fn new_start(self) -> u16
+        ensures { λ r. ⌜ r ≡ placeOn (self .places) (self .«old_start») (self .«old_length») ⌝ }
+    {
+        self.place_on(self.old_start, self.old_length)
+    }
+
+    // The place after the new segment.
+    pub fn due_place(self) -> u16
+        ensures { λ r. ⌜ r ≡ placeOn (self .places) (placeOn (self .places) (self .«old_start») (self .«old_length»)) (self .«new_length») ⌝ }
+    {
+        self.place_on(self.new_start(), self.new_length)
+    }
+}
+
+// The words of a map entry in a format.
+pub fn width_of(_format: u32) -> u16
+    ensures { λ r. ⌜ r ≡ widthOf «_format» ⌝ }
+{
+    2
+}
+
+// Where the map entry of a place starts.
+pub fn entry_start(card: &[u32], i: u16) -> usize
+    ensures { λ r. ⌜ r ≡ entryAt (now (card .entry)) i ⌝ }
+{
+    let width = width_of(word(card, 0));
+    CONFIGURATION_WORDS + width as usize * i as usize
+}
+
+// The rank of the map's pair for a place.
+pub fn first_pair(card: &[u32], i: u16) -> u64
+    ensures { λ r. ⌜ r ≡ firstPair (now (card .entry)) i ⌝ }
+{
+    let at = entry_start(card, i);
+    let pair = Pair {
+        term: word(card, at),
+        position: word(card, at + 1),
+    };
+    pair.rank()
+}
+
+// Where a place starts.
+pub fn place_start(card: &[u32], i: u16) -> usize
+    ensures { λ r. ⌜ r ≡ placeAt (now (card .entry)) i ⌝ }
+{
+    let width = width_of(word(card, 0));
+    let size = word(card, 1) as usize;
+    let places = word(card, 2) as usize;
+    CONFIGURATION_WORDS + width as usize * places + i as usize * size
+}
+
+// The words of a place, as far as the card has them.
+pub fn place(card: &[u32], i: u16) -> &[u32]
+    ensures { λ r. ⌜ now r ≡ place (now (card .entry)) i ⌝ }
+{
+    let size = word(card, 1) as usize;
+    let start = place_start(card, i);
+    let len = card.len();
+    if len <= start {
+        return &card[0..0];
+    }
+    if len - start < size {
+        return &card[start..len];
+    }
+    let end = start + size;
+    &card[start..end]
+}
