@@ -117,7 +117,7 @@ sub-most : tie.Need-sub-most
 sub-most c = search needs
 
 cast-most : tie.Need-cast-most
-cast-most c = omega (arith, c .shared-slice-known8 .given 2)
+cast-most c = omega (arith, c .shared-slice-known7 .given 2)
 
 returns-6 : tie.Need-returns-6
 unfolding firstOf
