@@ -18,6 +18,7 @@ pub ordered :
 ordered s a r e =
     record {
       shaped = s;
+      ofFormat = e .ofFormat;
       ofSize = omega (arith, s .sizeHigh, e .ofSize);
       ofPlaces = omega (arith, s .countHigh, e .ofPlaces);
       ofStart = omega (arith, s .countHigh, e .ofStart);

@@ -1,7 +1,8 @@
 // Where the parts of a card stand: its configuration read once, its map entries and its places. Every function takes any words whatever.
 ghost use mathlib.Core.Path.{_≡_};
-ghost use Rattle.card.specs.Layout.{word, widthOf, entryAt, firstPair, placeAt, place};
-ghost use Rattle.card.specs.code.Configuration.{short, ConfigurationOf, placeOn};
+ghost use lib.ListN.{take, drop};
+ghost use Rattle.card.specs.Layout.{word, widthOf, entryAt, entry, firstPair, placeAt, place};
+ghost use Rattle.card.specs.code.Configuration.{short, ConfigurationOf, put, placeOn};
 use pair::Pair;
 
 // The words before the map.
@@ -9,6 +10,7 @@ pub const CONFIGURATION_WORDS: usize = 8;
 
 // What the configuration words say. A field of 16 bits is its word's remainder by 65,536: of a sound card, the word.
 pub struct Configuration {
+    pub format: u32,
     pub size: u16,
     pub places: u16,
     pub old_start: u16,
@@ -42,6 +44,7 @@ impl Configuration {
             position: word(card, 7),
         };
         Configuration {
+            format: word(card, 0),
             size: short(card, 1),
             places: short(card, 2),
             old_start: short(card, 3),
@@ -49,6 +52,24 @@ impl Configuration {
             new_length: short(card, 5),
             boundary: boundary.rank(),
         }
+    }
+
+    // Writes the configuration words, where there are words enough.
+    pub fn put(self, words: &mut [u32])
+        ensures { λ _. ⌜ now (words .exit) ≡ put (now (words .entry)) self ⌝ }
+    {
+        if words.len() < CONFIGURATION_WORDS {
+            return;
+        }
+        let bound = Pair::of_rank(self.boundary);
+        words[0] = self.format;
+        words[1] = self.size as u32;
+        words[2] = self.places as u32;
+        words[3] = self.old_start as u32;
+        words[4] = self.old_length as u32;
+        words[5] = self.new_length as u32;
+        words[6] = bound.term;
+        words[7] = bound.position;
     }
 
     // The place j places on from a place, around the circle; 0 where there are no places.
@@ -114,19 +135,33 @@ pub fn place_start(card: &[u32], i: u16) -> usize
     CONFIGURATION_WORDS + width as usize * places + i as usize * size
 }
 
-// The words of a place, as far as the card has them.
-pub fn place(card: &[u32], i: u16) -> &[u32]
-    ensures { λ r. ⌜ now r ≡ place (now (card .entry)) i ⌝ }
+// So many words from one on, as far as the card has them.
+fn part(card: &[u32], start: usize, count: usize) -> &[u32]
+    ensures { λ r. ⌜ now r ≡ take count (drop start (now (card .entry))) ⌝ }
 {
-    let size = word(card, 1) as usize;
-    let start = place_start(card, i);
     let len = card.len();
     if len <= start {
         return &card[0..0];
     }
-    if len - start < size {
+    if len - start < count {
         return &card[start..len];
     }
-    let end = start + size;
+    let end = start + count;
     &card[start..end]
+}
+
+// The words of a map entry.
+pub fn entry(card: &[u32], i: u16) -> &[u32]
+    ensures { λ r. ⌜ now r ≡ entry (now (card .entry)) i ⌝ }
+{
+    let width = width_of(word(card, 0));
+    part(card, entry_start(card, i), width as usize)
+}
+
+// The words of a place.
+pub fn place(card: &[u32], i: u16) -> &[u32]
+    ensures { λ r. ⌜ now r ≡ place (now (card .entry)) i ⌝ }
+{
+    let size = word(card, 1);
+    part(card, place_start(card, i), size as usize)
 }

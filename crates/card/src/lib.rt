@@ -65,14 +65,16 @@ pub fn format(card: &mut [u32], b: u32, n: u32) -> u32
     if card.len() != card_length(FORMAT, b, n) {
         return WRONG_LENGTH;
     }
-    card[0] = FORMAT;
-    card[1] = b;
-    card[2] = n;
-    card[3] = 0;
-    card[4] = 0;
-    card[5] = 0;
-    card[6] = 0;
-    card[7] = 0;
+    let fresh = Configuration {
+        format: FORMAT,
+        size: b as u16,
+        places: n as u16,
+        old_start: 0,
+        old_length: 0,
+        new_length: 0,
+        boundary: 0,
+    };
+    fresh.put(card);
     0
 }
 

@@ -3,21 +3,30 @@ use Prim.Native.Nat.{ℕ, _+_, _%_}
 use mathlib.Core.Path.{_≡_}
 use mathlib.Core.Bool.{cond}
 use mathlib.Core.List.{List}
-use lib.Dec.{eqb}
+use lib.ListN.{length}
+use lib.Seq.{sets}
+use lib.Dec.{ltb, eqb}
 use Rattle.card.specs.declared.layout.Configuration.{Configuration}
-use Rattle.card.specs.Layout.{blockSize, placeCount, oldStart, oldLength, newLength, boundary}
+use Rattle.card.specs.Layout.{configurationWords, configurationOf, format, blockSize, placeCount, oldStart, oldLength, newLength, boundary}
 
 -- a field of 16 bits is its word's remainder
 abbrev pub short : ℕ → ℕ
 short w = w % 65536
 
 pub record ConfigurationOf (c : List ℕ) (k : Configuration) : Type 0 where
+  pub ofFormat : k .format ≡ format c
   pub ofSize : k .size ≡ short (blockSize c)
   pub ofPlaces : k .places ≡ short (placeCount c)
   pub ofStart : k .«old_start» ≡ short (oldStart c)
   pub ofOld : k .«old_length» ≡ short (oldLength c)
   pub ofNew : k .«new_length» ≡ short (newLength c)
   pub ofBoundary : k .boundary ≡ boundary c
+
+-- the words with the configuration in the first 8, where there are so many
+unfoldable pub put : List ℕ → Configuration → List ℕ
+put ws k =
+    cond (ltb (length ws) configurationWords) ws
+    (sets ws 0 (configurationOf (k .format) (k .size) (k .places) (k .«old_start») (k .«old_length») (k .«new_length») (k .boundary)))
 
 -- the place j places on from a place, around a circle of n; 0 where the circle has none
 unfoldable pub placeOn : ℕ → ℕ → ℕ → ℕ

@@ -9,7 +9,7 @@ use Rattle.block.specs.Block.{pairs, formed}
 use Rattle.block.specs.declared.BlockScan.{BlockScan}
 use Rattle.card.specs.declared.SegmentScan.{SegmentScan}
 use Rattle.card.specs.declared.layout.Configuration.{Configuration}
-use Rattle.card.specs.Layout.{blockSize, placeCount, oldStart, oldLength, newLength, boundary, entryWidth, cardLength, place, pairsAt}
+use Rattle.card.specs.Layout.{format, blockSize, placeCount, oldStart, oldLength, newLength, boundary, entryWidth, cardLength, place, pairsAt}
 use Rattle.card.specs.Sound.{liveBlock, blocksSound}
 
 -- the block size and the count of places are within their limits, and the card has the length that they give
@@ -22,6 +22,7 @@ pub record Shaped (c : List ℕ) : Type 0 where
 -- the configuration words are in order, and the configuration by value says what they say
 pub record Ordered (c : List ℕ) (k : Configuration) : Type 0 where
   pub shaped : Shaped c
+  pub ofFormat : k .format ≡ format c
   pub ofSize : k .size ≡ blockSize c
   pub ofPlaces : k .places ≡ placeCount c
   pub ofStart : k .«old_start» ≡ oldStart c
