@@ -1,7 +1,6 @@
 // The wanted positions of a term, those above one position and at most another, as a part of the words that hold them.
 ghost use mathlib.Core.Path.{_≡_};
-ghost use Prim.Native.Nat.{_≤_};
-ghost use lib.ListN.{length, drop};
+ghost use lib.ListN.{drop};
 ghost use Rattle.block.specs.code.Scan.{readsOn};
 ghost use Rattle.block.specs.code.Wanted.{UpTo, EntryPart, BlockPart};
 
@@ -47,11 +46,14 @@ fn entry_part(positions: &[u32], after: u32, to: u32) -> Part
 }
 
 // Whether another entry is to be read at i: three words remain, and the next is not 0.
-fn reads_on(words: &[u32], i: usize) -> bool
-    requires { ⌜ i ≤ length (now words) ⌝ }
+pub fn reads_on(words: &[u32], i: usize) -> bool
     ensures { λ r. ⌜ r ≡ readsOn (drop i (now (words .entry))) ⌝ }
 {
-    if words.len() <= i + 2 {
+    let len = words.len();
+    if len <= i {
+        return false;
+    }
+    if len - i <= 2 {
         return false;
     }
     words[i] != 0

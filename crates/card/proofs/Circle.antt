@@ -61,6 +61,14 @@ pub around-mod-add : (n start a len : ℕ) → around n (start % n + a) len ≡ 
 around-mod-add n start a len =
     sym (around-mod n (start % n + a) len) ∙ ap (λ s. around n s len) (mod-add-mod start n a) ∙ around-mod n (start + a) len
 
+-- The place j of a stretch, and the places after it.
+pub around-cons : (n start len j : ℕ) → j < len → around n (start + j) (len - j) ≡ (start + j) % n ∷ around n (start + (j + 1)) (len - (j + 1))
+unfolding around
+around-cons n start len j h =
+    let e : len - j ≡ suc (len - (j + 1)) = omega arith in
+    let f : start + j + 1 ≡ start + (j + 1) = omega arith in
+    rw e (rw f)
+
 -- One place more at the end.
 pub around-more : (n start len : ℕ) → around n start (len + 1) ≡ around n start len ++ ((start + len) % n ∷ [])
 unfolding around

@@ -15,6 +15,7 @@ use Rattle.block.specs.Block.{pairs, formed}
 use Rattle.block.specs.code.Scan.{scanned}
 use Rattle.block.specs.declared.BlockScan.{BlockScan}
 use Rattle.block.proofs.Reading.{formed-rising, formed-some}
+use Rattle.card.proofs.Circle.{around-cons}
 use Rattle.card.proofs.Live.{place-words}
 use Rattle.card.specs.Layout.{oldStart, oldLength, oldPlaces, placeCount, firstPair, place, around, pairsAt}
 use Rattle.card.specs.Sound.{liveBlock, blocksSound, firstReaches}
@@ -116,13 +117,6 @@ walking-start c start len after =
     let e : start + 0 ≡ start = omega arith in
     let f : len - 0 ≡ len = omega arith in
     record { within = zero-le; rest = rw (e, f) }
-
-around-cons : (n start len j : ℕ) → j < len → around n (start + j) (len - j) ≡ (start + j) % n ∷ around n (start + (j + 1)) (len - (j + 1))
-unfolding around
-around-cons n start len j h =
-    let e : len - j ≡ suc (len - (j + 1)) = omega arith in
-    let f : start + j + 1 ≡ start + (j + 1) = omega arith in
-    rw e (rw f)
 
 module _ {c : List ℕ} {start len after k j : ℕ} (a : Walking c start len after k j) (w : Words c) (h : j < len) (s : BlockScan) (e : s ≡ blockScanned c ((start + j) % placeCount c)) where
   pub walking-turn : (s .formed && ltb k (s .first)) ≡ true → Walking c start len after (s .last) (j + 1)

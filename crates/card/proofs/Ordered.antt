@@ -1,12 +1,17 @@
 -- The configuration by value: of a card whose configuration words are in order its fields are the words, and it names the places of the circle.
 use Prim.Native.Nat.{ℕ, _+_, _%_, _<_}
-use mathlib.Core.Path.{_≡_}
+use mathlib.Core.Path.{_≡_, refl}
+use mathlib.Core.Bool.{Bool, true, false, cond}
 use mathlib.Core.List.{List}
+use native.Mathlib.Nat.{mod-add-mod}
 use native.Mathlib.Omega.{arith}
+use lib.ListN.{length}
+use lib.Seq.{sets, length-sets}
+use lib.Dec.{ltb}
 use borrow.Author.Tests.{ne-eqb}
 use Rattle.card.specs.declared.layout.Configuration.{Configuration}
-use Rattle.card.specs.Layout.{placeCount, oldStart, oldLength, newLength, around}
-use Rattle.card.specs.code.Configuration.{ConfigurationOf, placeOn}
+use Rattle.card.specs.Layout.{configurationOf, placeCount, oldStart, oldLength, newLength, around}
+use Rattle.card.specs.code.Configuration.{ConfigurationOf, put, placeOn}
 use Rattle.card.specs.code.Scan.{Shaped, Ordered}
 use Rattle.card.proofs.Circle.{around-mod}
 use Rattle.card.proofs.Facts.{Facts}
@@ -36,12 +41,32 @@ shaped f = record { sizeHigh = f .sizeHigh; countLow = f .countLow; countHigh = 
 pub ordered-sound : {c : List ℕ} {k : Configuration} → Facts c → ConfigurationOf c k → Ordered c k
 ordered-sound f e = ordered (shaped f) (f .start) (f .room) e
 
+-- Its places are those of the circle,
+pub place-on-circle : {c : List ℕ} (n start j : ℕ) → Shaped c → n ≡ placeCount c → placeOn n start j ≡ (start + j) % placeCount c
+unfolding placeOn
+place-on-circle {c} n start j s e = rw (e, ne-eqb (placeCount c) 0 (omega (arith, s .countLow)))
+
+-- The configuration words leave the length.
+pub length-put : (ws : List ℕ) (k : Configuration) → length (put ws k) ≡ length ws
+unfolding put
+length-put ws k = go (ltb (length ws) 8)
+  where
+    go : (t : Bool) →
+        length (cond t ws (sets ws 0 (configurationOf (k .format) (k .size) (k .places) (k .«old_start») (k .«old_length») (k .«new_length») (k .boundary)))) ≡ length ws
+    go true = refl
+    go false = length-sets ws 0 (configurationOf (k .format) (k .size) (k .places) (k .«old_start») (k .«old_length») (k .«new_length») (k .boundary))
+
 module _ {c : List ℕ} {k : Configuration} (o : Ordered c k) (start j : ℕ) where
-  -- Its places are those of the circle,
   pub place-on : placeOn (k .places) start j ≡ (start + j) % placeCount c
-  unfolding placeOn
-  place-on = rw (o .ofPlaces, ne-eqb (placeCount c) 0 (omega (arith, o .shaped .countLow)))
+  place-on = place-on-circle (k .places) start j (o .shaped) (o .ofPlaces)
 
   -- and a stretch goes on from them.
   pub around-on : (len : ℕ) → around (placeCount c) (placeOn (k .places) start j) len ≡ around (placeCount c) (start + j) len
   around-on len = rw place-on (around-mod (placeCount c) (start + j) len)
+
+-- The place after the new segment.
+pub due-place-on : {c : List ℕ} {k : Configuration} → Ordered c k →
+    placeOn (k .places) (placeOn (k .places) (k .«old_start») (k .«old_length»)) (k .«new_length») ≡ (oldStart c + oldLength c + newLength c) % placeCount c
+due-place-on {c} {k} o =
+    rw (place-on o (k .«old_start») (k .«old_length»), place-on o ((k .«old_start» + k .«old_length») % placeCount c) (k .«new_length»), o .ofStart, o .ofOld, o .ofNew)
+    (mod-add-mod (oldStart c + oldLength c) (placeCount c) (newLength c))

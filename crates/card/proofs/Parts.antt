@@ -1,5 +1,5 @@
 -- Parts of a list of words, and where the places and map entries of a card lie, over any width.
-use Prim.Native.Nat.{ℕ, suc, _+_, _*_, _-_, _≤_, _<_}
+use Prim.Native.Nat.{ℕ, zero, suc, _+_, _*_, _-_, _≤_, _<_}
 use mathlib.Core.Path.{_≡_, refl, sym, _∙_, ap}
 use mathlib.Core.Bool.{Bool, true, false}
 use mathlib.Core.List.{List, [], _∷_, _++_, append-assoc}
@@ -7,7 +7,7 @@ use native.Mathlib.Nat.{add-zero, mul-le-mul, mul-le-mul-left, mul-le-mul-right}
 use native.Mathlib.Numerals.{add-one}
 use native.Mathlib.Omega.{arith}
 use lib.ListN.{length, take, drop, getD, set, length-take, length-drop}
-use lib.Seq.{sets, sets-eq, take-suc, take-set-le, drop-set-add, drop-set-lt, take-at, drop-at, length-take-le, getD-drop, getD-take}
+use lib.Seq.{sets, sets-eq, take-nil, take-suc, take-set-le, drop-set-add, drop-set-lt, take-at, drop-at, length-take-le, getD-drop, getD-take}
 use lib.Dec.{ltb}
 use borrow.Author.Tests.{ltb-true, ltb-false}
 use Rattle.pair.specs.Rank.{rank}
@@ -16,6 +16,13 @@ use Rattle.card.specs.code.Scan.{Shaped}
 
 pub length-part : (c : List ℕ) (a n : ℕ) → a + n ≤ length c → length (take n (drop a c)) ≡ n
 length-part c a n h = rw (length-take, length-drop) (omega arith)
+
+-- The rest of a beginning is a part.
+pub drop-take : (a e : ℕ) (l : List ℕ) → drop a (take e l) ≡ take (e - a) (drop a l)
+drop-take zero e l = let z : e - zero ≡ e = omega arith in rw z
+drop-take (suc a) zero l = let z : zero - suc a ≡ zero = omega arith in rw z
+drop-take (suc a) (suc e) [] = sym (take-nil (suc e - suc a))
+drop-take (suc a) (suc e) (x ∷ l) = let z : suc e - suc a ≡ e - a = omega arith in rw z (drop-take a e l)
 
 -- Words written one list after another.
 pub sets-append : (xs ys l : List ℕ) (p : ℕ) → sets l p (xs ++ ys) ≡ sets (sets l p xs) (p + length xs) ys

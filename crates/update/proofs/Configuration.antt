@@ -20,8 +20,9 @@ use Rattle.card.specs.Sound.{blocksSound}
 use Rattle.card.proofs.Circle.{around-drop, length-around}
 use Rattle.card.proofs.Facts.{Facts}
 use Rattle.card.proofs.Live.{reaches-zero, pairsAt-append, blocksSound-append, live-atMost, live-above}
-use Rattle.update.specs.Step.{spent, configured, nextBoundary, freed, grown, configuration, crowded}
-use Rattle.update.proofs.Configured.{Fit, configured-live}
+use Rattle.update.specs.Step.{spent, nextBoundary, freed, grown, configuration, theWrite, crowded}
+use Rattle.update.proofs.Writes.{written}
+use Rattle.update.proofs.Configured.{withSegments, Fit, configured-live}
 use Rattle.update.proofs.Grown.{Remaining, Ready, Grown, growing}
 use Rattle.update.proofs.Spent.{spent-length, spent-reaches, above-spent}
 
@@ -96,12 +97,12 @@ module _ (c r : List ℕ) (f : Facts c) (m : Remaining c r) (ready : 0 < length 
           reaches = rw left (spent-reaches c mark (oldPlaces c));
         }
 
-    pub configuration-on : configuration c r ≡ configured c (oldStart c + gone) (oldLength c - gone) (grown c r) mark
-    unfolding configuration
+    pub configuration-on : written c r 3 ≡ withSegments c (oldStart c + gone) (oldLength c - gone) (grown c r) mark
+    unfolding theWrite configuration
     configuration-on = rw (on, freed-on, nextBoundary-on)
 
     -- Where it goes on, the due pairs stand between the pairs up to the old boundary and those above the new one.
-    pub live-on : live (configuration c r) ≡ atMost (boundary c) (live c) ++ (due (blockSize c) r ++ above mark (live c))
+    pub live-on : live (written c r 3) ≡ atMost (boundary c) (live c) ++ (due (blockSize c) r ++ above mark (live c))
     live-on =
         rw (
           configuration-on,
@@ -149,12 +150,12 @@ module _ (c r : List ℕ) (f : Facts c) (m : Remaining c r) (ready : 0 < length 
           reaches = reaches-zero c _ (grows .sound) (rw (grows .pairs) (grows .rising));
         }
 
-    pub configuration-end : configuration c r ≡ configured c (oldStart c + oldLength c) (grown c r) 0 0
-    unfolding configuration
+    pub configuration-end : written c r 3 ≡ withSegments c (oldStart c + oldLength c) (grown c r) 0 0
+    unfolding theWrite configuration
     configuration-end = rw end
 
     -- Where it finishes, what remains stands after the pairs up to the boundary.
-    pub live-end : live (configuration c r) ≡ atMost (boundary c) (live c) ++ r
+    pub live-end : live (written c r 3) ≡ atMost (boundary c) (live c) ++ r
     unfolding around pairsAt
     live-end =
         rw (

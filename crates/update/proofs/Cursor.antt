@@ -1,8 +1,8 @@
 -- One pair after the other from the old segment: where the cursor stands after each way of going on.
 use Prim.Native.Nat.{ℕ, zero, suc, _+_, _-_, _%_, _≤_, _<_}
 use native.Mathlib.Omega.{arith}
-use native.Mathlib.Nat.{mod-lt}
-use mathlib.Core.Path.{_≡_, refl, sym, _∙_}
+use native.Mathlib.Nat.{mod-lt, mod-eq-of-lt}
+use mathlib.Core.Path.{_≡_, refl, sym, ap, _∙_}
 use mathlib.Core.Bool.{Bool, true, false, _&&_, not, false≢true}
 use mathlib.Core.Logic.{_≢_}
 use mathlib.Core.List.{List, [], _∷_, _++_}
@@ -17,9 +17,9 @@ use Rattle.pair.proofs.Rising.{rising-head, rising-tail}
 use Rattle.block.specs.Block.{pairsFrom, pairs, formedFrom, formed}
 use Rattle.block.specs.code.Scan.{readsOn}
 use Rattle.block.proofs.Walk.{reads-on, pairs-stops, unformed-start}
-use Rattle.card.specs.Layout.{blockSize, placeCount, entryWidth, firstPair, placeAt, place, around, pairsAt}
+use Rattle.card.specs.Layout.{blockSize, placeCount, firstPair, placeAt, place, around, pairsAt}
 use Rattle.card.specs.Sound.{blocksSound}
-use Rattle.card.proofs.Judging.{place-part}
+use Rattle.card.proofs.Circle.{around-mod}
 use Rattle.card.proofs.Parts.{place-inside}
 use Rattle.update.specs.declared.old.OldCursor.{OldCursor}
 use Rattle.update.specs.code.Old.{rest, coming, pending, EntryAt, entryAtWords, Reading, Stands, Advanced}
@@ -33,15 +33,6 @@ rest-step c at end h l =
 
 rest-length : (c : List ℕ) (at end : ℕ) → at ≤ end → end ≤ length c → length (rest c at end) ≡ end - at
 rest-length c at end h l = simp (length-take, length-drop) (omega arith)
-
--- whether another entry is to be read at a word
-pub follows-short : (c : List ℕ) (at end : ℕ) → at ≤ end → end ≤ length c → end ≤ at + 2 → false ≡ readsOn (rest c at end)
-unfolding readsOn
-follows-short c at end h l e = rw (rest-length c at end h l, le-leb (end - at) 2 (omega arith))
-
-pub follows-at : (c : List ℕ) (at end : ℕ) → at ≤ end → end ≤ length c → at + 2 < end → not (eqb (getD c at 0) 0) ≡ readsOn (rest c at end)
-unfolding readsOn
-follows-at c at end h l e = rw (rest-length c at end h l, lt-leb (end - at) 2 (omega arith), rest-step c at end (omega arith) l)
 
 -- the pair found is the first of those to come
 found :
@@ -99,7 +90,7 @@ advanced-position {c} {o} s h = go (found c o r (s .rising) comes)
             shaped = s .shaped;
             inside = omega (arith, l);
             ends = s .ends;
-            few = s .few;
+            within = s .within;
             reading = record { position = getD c (o .at) 0; formed = formed-position (getD c (o .at) 0) (rest c (o .at + 1) (o .end)) (o .term) (o .count) (s .reading .position) h (rw step at (s .reading .formed)) };
             sound = s .sound;
             rising = f .1;
@@ -156,7 +147,7 @@ entered c at end t h l r e =
 
 -- an entry read with the pairs of the places left behind it
 entry-stands :
-    (c : List ℕ) (o : OldCursor) (at end t m n : ℕ) → Stands c o → Entered c at end t → m + n ≤ 2048 →
+    (c : List ℕ) (o : OldCursor) (at end t m n : ℕ) → Stands c o → Entered c at end t → m < placeCount c →
     blocksSound c (around (placeCount c) m n) ≡ true → coming c o ≡ pairsFrom (rest c at end) t 0 ++ pairsAt c (around (placeCount c) m n) →
     Advanced c o (entryAtWords c at end m n)
 unfolding entryAtWords
@@ -175,7 +166,7 @@ entry-stands c o at end t m n s e k b f = go (found c o r (s .rising) comes)
             shaped = s .shaped;
             inside = omega (arith, e .entry .inside);
             ends = e .entry .ends;
-            few = k;
+            within = k;
             reading = e .reading;
             sound = b;
             rising = g .1;
@@ -188,7 +179,7 @@ entry-there {c} {o} s z e = entered c (o .at) (o .end) (o .term) (s .inside) (s 
 
 pub advanced-entry : {c : List ℕ} {o : OldCursor} → Stands c o → o .count ≡ 0 → readsOn (rest c (o .at) (o .end)) ≡ true → Advanced c o (entryAtWords c (o .at) (o .end) (o .place) (o .places))
 advanced-entry {c} {o} s z e =
-    entry-stands c o (o .at) (o .end) (o .term) (o .place) (o .places) s (entered c (o .at) (o .end) (o .term) (s .inside) (s .ends) (rw z at (s .reading)) e) (s .few) (s .sound)
+    entry-stands c o (o .at) (o .end) (o .term) (o .place) (o .places) s (entered c (o .at) (o .end) (o .term) (s .inside) (s .ends) (rw z at (s .reading)) e) (s .within) (s .sound)
     (unfold coming in rw z)
 
 -- the block in hand is read
@@ -205,7 +196,7 @@ advanced-end {c} {o} s z e n =
         shaped = s .shaped;
         inside = omega arith;
         ends = s .ends;
-        few = s .few;
+        within = s .within;
         reading = record { position = 0; formed = unfold formedFrom in rw (z, none) };
         sound = s .sound;
         rising = unfold coming around pairsAt pairsFrom risingFrom in rw (z, n, none);
@@ -234,40 +225,37 @@ formed-reads ws e = ((unfold formed in and-left (formedFrom ws 0 0 0) _ e), go (
     go true f = f
     go false f = contradiction (formed ws) e (unformed-start ws f)
 
--- the places lie in the card
+-- a place as the words that are left of it at its start
+place-rest : (c : List ℕ) (i : ℕ) → rest c (placeAt c i) (placeAt c i + blockSize c) ≡ place c i
+unfolding place
+place-rest c i = let e : placeAt c i + blockSize c - placeAt c i ≡ blockSize c = omega arith in rw e
+
+-- the place in hand and those left after it
+left : {c : List ℕ} {o : OldCursor} → Stands c o → (o .places ≡ 0 → ⊥) →
+    around (placeCount c) (o .place) (o .places) ≡ o .place ∷ around (placeCount c) (o .place + 1) (o .places - 1)
+unfolding around
+left {c} {o} s n =
+    let e : o .places ≡ suc (o .places - 1) = omega (arith, n) in
+    ap (around (placeCount c) (o .place)) e ∙ rw (mod-eq-of-lt (s .within))
+
+-- a place left has an entry
 pub place-entered :
-    {c : List ℕ} {o : OldCursor} → Stands c o → o .count ≡ 0 → (o .places ≡ 0 → ⊥) →
-    Entered c (placeAt entryWidth c (o .place % placeCount c)) (placeAt entryWidth c (o .place % placeCount c) + blockSize c) 0
-place-entered {c} {o} s z n = go (o .places) refl n (s .sound)
-  where
-    i : ℕ
-    i = o .place % placeCount c
-
-    here : i < placeCount c
-    here = mod-lt (o .place) (omega (arith, s .shaped .countLow))
-
-    go : (m : ℕ) → o .places ≡ m → (m ≡ 0 → ⊥) → blocksSound c (around (placeCount c) (o .place) m) ≡ true → Entered c (placeAt entryWidth c i) (placeAt entryWidth c i + blockSize c) 0
-    go zero e k b = absurd (k refl)
-    go (suc m) e k b =
-        let f = place-block c i (around (placeCount c) (o .place + 1) m) (unfold around in b) in
-        let g = formed-reads (place c i) (f .0) in
-        entered c (placeAt entryWidth c i) (placeAt entryWidth c i + blockSize c) 0 (omega arith) (place-inside c i (s .shaped) here)
-        (record { position = 0; formed = rw (place-part c i) (g .0) }) (rw (place-part c i) (g .1))
+    {c : List ℕ} {o : OldCursor} → Stands c o → (o .places ≡ 0 → ⊥) → Entered c (placeAt c (o .place)) (placeAt c (o .place) + blockSize c) 0
+place-entered {c} {o} s n =
+    let i = o .place in
+    let f = place-block c i _ (rw (left s n) at (s .sound)) in
+    let g = formed-reads (place c i) (f .0) in
+    entered c (placeAt c i) (placeAt c i + blockSize c) 0 (omega arith) (place-inside c i (s .shaped) (s .within))
+    (record { position = 0; formed = rw (place-rest c i) (g .0) }) (rw (place-rest c i) (g .1))
 
 pub advanced-place :
-    {c : List ℕ} {o : OldCursor} → Stands c o → o .count ≡ 0 → readsOn (rest c (o .at) (o .end)) ≡ false → (o .places ≡ 0 → ⊥) →
-    Advanced c o (entryAtWords c (placeAt entryWidth c (o .place % placeCount c)) (placeAt entryWidth c (o .place % placeCount c) + blockSize c) (o .place + 1) (o .places - 1))
-advanced-place {c} {o} s z e n = go (o .places) refl n (s .sound) (over c o z e)
-  where
-    i : ℕ
-    i = o .place % placeCount c
-
-    go : (m : ℕ) → o .places ≡ m → (m ≡ 0 → ⊥) → blocksSound c (around (placeCount c) (o .place) m) ≡ true → coming c o ≡ pairsAt c (around (placeCount c) (o .place) m) →
-        Advanced c o (entryAtWords c (placeAt entryWidth c i) (placeAt entryWidth c i + blockSize c) (o .place + 1) (m - 1))
-    go zero w k b f = absurd (k refl)
-    go (suc m) w k b f =
-        let g = place-block c i (around (placeCount c) (o .place + 1) m) (unfold around in b) in
-        let l : suc m - 1 ≡ m = omega arith in
-        rw l
-        (entry-stands c o (placeAt entryWidth c i) (placeAt entryWidth c i + blockSize c) 0 (o .place + 1) m s (place-entered s z n) (omega (arith, s .few, w)) (g .1)
-        (f ∙ (unfold around pairsAt pairs in rw (place-part c i))))
+    {c : List ℕ} {o : OldCursor} (p : ℕ) → p ≡ (o .place + 1) % placeCount c → Stands c o → o .count ≡ 0 →
+    readsOn (rest c (o .at) (o .end)) ≡ false → (o .places ≡ 0 → ⊥) →
+    Advanced c o (entryAtWords c (placeAt c (o .place)) (placeAt c (o .place) + blockSize c) p (o .places - 1))
+advanced-place {c} {o} p h s z e n =
+    let i = o .place in
+    let m = o .places - 1 in
+    let next : around (placeCount c) p m ≡ around (placeCount c) (i + 1) m = rw h (around-mod (placeCount c) (i + 1) m) in
+    entry-stands c o (placeAt c i) (placeAt c i + blockSize c) 0 p m s (place-entered s n) (rw h (mod-lt (i + 1) (omega (arith, s .shaped .countLow))))
+    (rw next (place-block c i _ (rw (left s n) at (s .sound)) .1))
+    (over c o z e ∙ rw (left s n, next) (unfold pairsAt pairs in rw (place-rest c i)))

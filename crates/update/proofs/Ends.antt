@@ -15,7 +15,7 @@ use Rattle.card.specs.Layout.{blockSize, place}
 use Rattle.card.specs.Sound.{judged}
 use Rattle.card.proofs.Facts.{Facts, facts}
 use Rattle.card.proofs.Frame.{Alike, judged-alike}
-use Rattle.update.specs.Step.{remains, duePlace, dueBlock, nextWrite, written, configuration, stepNumber, taken, step}
+use Rattle.update.specs.Step.{remains, duePlace, dueBlock, nextWrite, theWrite, stepNumber, taken, step}
 use Rattle.update.specs.Pass.{blocks, stepLimit, finishesWithin, refusedWithin}
 use Rattle.update.proofs.Blocks.{blocks-next, blocks-none, blocks-some, blocks-goesOn}
 use Rattle.update.proofs.Frame.{size-alike, remains-alike}
@@ -23,7 +23,7 @@ use Rattle.update.proofs.Grown.{Remaining, Ready}
 use Rattle.update.proofs.Next.{remaining, next-first, next-second, remains-next}
 use Rattle.update.proofs.Settled.{configuration-sound, configuration-words, configuration-size}
 use Rattle.update.proofs.Steps.{Accepted, accepted, step-taken, step-number}
-use Rattle.update.proofs.Writes.{three, written-first-alike, written-first-words, written-second-alike, written-second-words}
+use Rattle.update.proofs.Writes.{written, three, written-first-alike, written-first-words, written-second-alike, written-second-words}
 
 -- the work left: three writes for each block after the due one, and the writes left of the due one
 unfoldable pub work : List ℕ → List ℕ → ℕ
@@ -58,7 +58,7 @@ work-alike c d b a h =
 
 -- so does a configuration write that goes on
 work-next : (c b : List ℕ) → Facts c → Words c → Words b → Accepted c b → (0 < length (remains c b) → Ready c (remains c b)) →
-    goesOn (blockSize c) (remains c b) ≡ true → work (configuration c (remains c b)) b < work c b
+    goesOn (blockSize c) (remains c b) ≡ true → work (written c (remains c b) 3) b < work c b
 unfolding work
 work-next c b f wc wb a ready on =
     let r : List ℕ = remains c b in
@@ -67,7 +67,7 @@ work-next c b f wc wb a ready on =
     let fewer : blocks (blockSize c) r ≡ suc (blocks (blockSize c) (drop (fitting (blockSize c) 0 r) r)) = blocks-next (blockSize c) r low (goesOn-some (blockSize c) r on) (m .proper) in
     let two : 2 ≤ blocks (blockSize c) r = blocks-goesOn (blockSize c) r low (m .proper) on in
     rw (configuration-size c r f m ready (a .free), remains-next c b f wc wb (a .inOrder) ready (a .free) on)
-    (omega (arith, next-range c r, next-range (configuration c r) (drop (fitting (blockSize c) 0 r) r)))
+    (omega (arith, next-range c r, next-range (written c r 3) (drop (fitting (blockSize c) 0 r) r)))
 
 -- the claim for n steps
 abbrev Ends : List ℕ → ℕ → List ℕ → Type 0
@@ -83,7 +83,7 @@ turn : (c b : List ℕ) (n : ℕ) → Facts c → Words c → Words b → Accept
     let w = nextWrite c r in
     (not (lastWrite c r w) && refusedWithin n (written c r w) b) ≡ false →
     (lastWrite c r w || finishesWithin n (written c r w) b) ≡ true
-unfolding written
+unfolding theWrite
 turn c b n f wc wb a ih l = three c r P first second third refl
   where
     r : List ℕ
@@ -114,7 +114,7 @@ turn c b n f wc wb a ih l = three c r P first second third refl
         go : (t : Bool) → goesOn (blockSize c) r ≡ t → (not (not t) && refusedWithin n (written c r 3) b) ≡ false →
             (not t || finishesWithin n (written c r 3) b) ≡ true
         go true on q =
-            ih (configuration c r) (configuration-words c r f m ready (a .free) wc) (configuration-sound c r f m ready (a .free))
+            ih (written c r 3) (configuration-words c r f m ready (a .free) wc) (configuration-sound c r f m ready (a .free))
             (omega (arith, work-next c b f wc wb a ready on)) q
         go false on q = refl
 

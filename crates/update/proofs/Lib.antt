@@ -9,8 +9,8 @@ pub mod Frame
 pub mod Grown
 pub mod Merging
 pub mod Next
-pub mod Outcome
 pub mod Room
+pub mod Plans
 pub mod Roomy
 pub mod Settled
 pub mod Skipping

@@ -17,16 +17,15 @@ use Rattle.block.proofs.Due.{rising-due}
 use Rattle.batch.specs.Batch.{Update, updates, applied, batchNumber}
 use Rattle.batch.proofs.InOrder.{rising-batch, proper-batch}
 use Rattle.batch.proofs.Local.{above-applied}
-use Rattle.card.specs.Layout.{blockSize, boundary, place, live}
+use Rattle.card.specs.Layout.{blockSize, boundary, entry, place, live}
 use Rattle.card.proofs.Facts.{Facts, facts}
 use Rattle.card.proofs.Live.{live-rising, live-proper}
-use Rattle.card.proofs.Parts.{entry}
-use Rattle.update.specs.Step.{remains, duePlace, dueBlock, dueEntry, nextWrite, written, configuration, crowded}
+use Rattle.update.specs.Step.{remains, duePlace, dueBlock, dueEntry, nextWrite, crowded}
 use Rattle.update.proofs.Configuration.{live-on, nextBoundary-on, mark-above, some}
 use Rattle.update.proofs.Frame.{duePlace-alike, dueBlock-alike}
 use Rattle.update.proofs.Grown.{Remaining, Ready}
 use Rattle.update.proofs.Settled.{configuration-sound, configuration-boundary}
-use Rattle.update.proofs.Writes.{same-refl, written-first-alike, written-first-place, written-second-alike, written-second-entry, written-second-place}
+use Rattle.update.proofs.Writes.{written, next-write, same-refl, written-first-alike, written-first-place, written-second-alike, written-second-entry, written-second-place}
 
 -- What remains with a batch in order is pairs, rising from the boundary.
 pub remaining : (c b : List ℕ) → Facts c → Words c → Words b → batchNumber b ≡ 0 → Remaining c (remains c b)
@@ -39,18 +38,16 @@ remaining c b f wc wb e =
 
 -- With the due block and its map entry in place the third write is next.
 pub next-ready : (c r : List ℕ) → (0 < length r → Ready c r) → nextWrite c r ≡ 3
-unfolding nextWrite
-next-ready c [] e = refl
+next-ready c [] e = next-write c []
 next-ready c (x ∷ xs) e =
     let z = e (omega arith) in
-    rw (eqb·suc-zero (length xs), z .block, z .mapped, same-refl (dueBlock c (x ∷ xs)), same-refl (dueEntry (x ∷ xs)))
+    rw (next-write c (x ∷ xs), eqb·suc-zero (length xs), z .block, z .mapped, same-refl (dueBlock c (x ∷ xs)), same-refl (dueEntry (x ∷ xs)))
 
 -- With the due block in place the second or the third is.
 pub next-placed : (c r : List ℕ) → place c (duePlace c) ≡ dueBlock c r → 2 ≤ nextWrite c r
-unfolding nextWrite
-next-placed c [] e = omega arith
+next-placed c [] e = rw (next-write c []) (omega arith)
 next-placed c (x ∷ xs) e =
-    rw (eqb·suc-zero (length xs), e, same-refl (dueBlock c (x ∷ xs))) (go (same (entry c (duePlace c)) (dueEntry (x ∷ xs))))
+    rw (next-write c (x ∷ xs), eqb·suc-zero (length xs), e, same-refl (dueBlock c (x ∷ xs))) (go (same (entry c (duePlace c)) (dueEntry (x ∷ xs))))
   where
     go : (t : Bool) → 2 ≤ cond (not t) 2 3
     go true = omega arith
@@ -85,14 +82,14 @@ above-due b k r h = above-take (fitting b 0 r) r k h
 pub remains-next :
     (c b : List ℕ) → Facts c → Words c → Words b → batchNumber b ≡ 0 → (0 < length (remains c b) → Ready c (remains c b)) →
     crowded c (remains c b) ≡ false → goesOn (blockSize c) (remains c b) ≡ true →
-    remains (configuration c (remains c b)) b ≡ drop (fitting (blockSize c) 0 (remains c b)) (remains c b)
+    remains (written c (remains c b) 3) b ≡ drop (fitting (blockSize c) 0 (remains c b)) (remains c b)
 remains-next c b f wc wb e ready free on = opened ∙ local ∙ beyond
   where
     r : List ℕ
     r = remains c b
 
     d : List ℕ
-    d = configuration c r
+    d = written c r 3
 
     us : List Update
     us = updates b

@@ -16,7 +16,7 @@ use Rattle.pair.proofs.Parts.{above-append, above-none, above-further}
 use Rattle.block.specs.Block.{pairs, due}
 use Rattle.block.proofs.Size.{size, size-keep, block-size}
 use Rattle.block.proofs.Due.{due-high, due-covers}
-use Rattle.card.specs.Layout.{blockSize, entryWidth, placeAt, place, pairsAt}
+use Rattle.card.specs.Layout.{blockSize, placeAt, place, pairsAt}
 use Rattle.card.proofs.Live.{place-words}
 use Rattle.update.specs.Step.{spent}
 use Rattle.update.proofs.Spent.{spent-length}
@@ -61,7 +61,7 @@ kept-size g c k i w =
       size-keep g 0 (keep (ltb k) (pairs (place c i))),
       size-keep (ltb k) 0 (pairs (place c i)),
       block-size (place c i) (place-words c i w),
-      length-take (blockSize c) (drop (placeAt entryWidth c i) c),
+      length-take (blockSize c) (drop (placeAt c i) c),
     )
 
 -- nothing is kept of the first of the places above k

@@ -18,13 +18,13 @@ use Rattle.card.specs.Sound.{judged}
 use Rattle.card.proofs.Facts.{Facts, facts}
 use Rattle.card.proofs.Frame.{SameAt, Alike, boundary-alike, oldPlaces-alike, word-alike}
 use Rattle.batch.specs.Batch.{batchNumber}
-use Rattle.update.specs.Step.{remains, spent, grown, freed, nextBoundary, configured, configuration, nextWrite, written, stepNumber}
-use Rattle.update.proofs.Configured.{configured-boundary, configured-oldPlaces, configured-new, configured-count, configured-same}
+use Rattle.update.specs.Step.{remains, spent, grown, freed, nextBoundary, configuration, nextWrite, theWrite, stepNumber}
+use Rattle.update.proofs.Configured.{withSegments, configured-boundary, configured-oldPlaces, configured-new, configured-count, configured-same}
 use Rattle.update.proofs.Crowded.{Removals, stays, remains-removals, removals-not-crowded}
 use Rattle.update.proofs.Room.{Kept, Last, Room, room-next, room-last}
 use Rattle.update.proofs.Spent.{spent-length}
 use Rattle.update.proofs.Steps.{accepting}
-use Rattle.update.proofs.Writes.{three, written-first-alike, written-second-alike}
+use Rattle.update.proofs.Writes.{written, three, written-first-alike, written-second-alike}
 
 -- the card has room for what the batch leaves: two places are free, or one, and nothing is left of the first old block
 abbrev pub Roomy : List ℕ → List ℕ → Type 0
@@ -44,28 +44,28 @@ roomy-alike b c d a h =
 
 -- a configuration write leaves it where the segments that it sets have it
 pub roomy-configured : (b c : List ℕ) (s o n k : ℕ) → Facts c → Room (stays b) c k (around (placeCount c) s o) n (placeCount c) →
-    Roomy b (configured c s o n k)
+    Roomy b (withSegments c s o n k)
 roomy-configured b c s o n k f h =
     rw (configured-boundary c s o n k f, configured-oldPlaces c s o n k f, configured-new c s o n k f, configured-count c s o n k f)
-    (room-same (stays b) c (configured c s o n k) k (around (placeCount c) s o) n (placeCount c) (Each-all _ (configured-same c s o n k f) (around (placeCount c) s o)) h)
+    (room-same (stays b) c (withSegments c s o n k) k (around (placeCount c) s o) n (placeCount c) (Each-all _ (configured-same c s o n k f) (around (placeCount c) s o)) h)
 
 -- the configuration write in words that speak of the card before it
 configuration-goes-on : (c r : List ℕ) → goesOn (blockSize c) r ≡ true →
     let k = last 0 (due (blockSize c) r) in
     let gone = spent c k (oldPlaces c) in
-    configuration c r ≡ configured c (oldStart c + gone) (oldLength c - gone) (newLength c + 1) k
-unfolding configuration freed grown nextBoundary
+    written c r 3 ≡ withSegments c (oldStart c + gone) (oldLength c - gone) (newLength c + 1) k
+unfolding theWrite configuration freed grown nextBoundary
 configuration-goes-on c r on =
     let some : 0 < length r = goesOn-some (blockSize c) r on in
     rw (on, ne-eqb (length r) 0 (omega arith))
 
 configuration-ends : (c r : List ℕ) → goesOn (blockSize c) r ≡ false →
-    configuration c r ≡ configured c (oldStart c + oldLength c) (grown c r) 0 0
-unfolding configuration
+    written c r 3 ≡ withSegments c (oldStart c + oldLength c) (grown c r) 0 0
+unfolding theWrite configuration
 configuration-ends c r ends = rw ends
 
 -- and the write of a step of removals does
-pub roomy-configuration : (b c : List ℕ) → Facts c → Words c → Removals b → Roomy b c → Roomy b (configuration c (remains c b))
+pub roomy-configuration : (b c : List ℕ) → Facts c → Words c → Removals b → Roomy b c → Roomy b (written c (remains c b) 3)
 unfolding grown
 roomy-configuration b c f w o h =
     rw (remains-removals c b f o) (go (goesOn (blockSize c) (Kept (stays b) c (boundary c) (oldPlaces c))) refl)
@@ -91,7 +91,7 @@ roomy-configuration b c f w o h =
     few : gone ≤ oldLength c
     few = rw length-is at (spent-length c (Last g c k is) is)
 
-    go : (t : Bool) → goesOn (blockSize c) (Kept g c k is) ≡ t → Roomy b (configuration c (Kept g c k is))
+    go : (t : Bool) → goesOn (blockSize c) (Kept g c k is) ≡ t → Roomy b (written c (Kept g c k is) 3)
     go true on =
         rw (configuration-goes-on c (Kept g c k is) on)
         (roomy-configured b c (oldStart c + gone) (oldLength c - gone) (newLength c + 1) (Last g c k is) f
@@ -110,7 +110,7 @@ roomy-number b c j w n o h =
 
 -- and a step of removals keeps the room, whichever write it makes
 pub roomy-written : (b c : List ℕ) → Facts c → Words c → Removals b → Roomy b c → Roomy b (written c (remains c b) (nextWrite c (remains c b)))
-unfolding written
+unfolding theWrite
 roomy-written b c f w o h =
     let r : List ℕ = remains c b in
     three c r (λ x. Roomy b (written c r x))

@@ -8,12 +8,13 @@ use lib.ListN.{length}
 use Rattle.pair.specs.Rank.{term, position, Words}
 use Rattle.pair.specs.Rising.{last}
 use Rattle.block.specs.Block.{due, goesOn}
-use Rattle.card.specs.Layout.{word, blockSize, oldStart, oldLength, boundary, oldPlaces}
+use Rattle.card.specs.Layout.{blockSize, oldStart, oldLength, boundaryTerm, boundaryPosition, boundary, oldPlaces}
 use Rattle.card.specs.Sound.{judged}
 use Rattle.card.proofs.Facts.{Facts}
-use Rattle.update.specs.Step.{spent, configured, nextBoundary, grown, configuration, crowded}
+use Rattle.update.specs.Step.{spent, nextBoundary, grown, crowded}
+use Rattle.update.proofs.Writes.{written}
 use Rattle.update.proofs.Configuration.{nextBoundary-on, mark-proper, fit-on, configuration-on, nextBoundary-end, fit-end, configuration-end}
-use Rattle.update.proofs.Configured.{Fit, configured-sound, configured-words, configured-size, configured-term, configured-position, configured-boundary}
+use Rattle.update.proofs.Configured.{withSegments, Fit, configured-sound, configured-words, configured-size, configured-term, configured-position, configured-boundary}
 use Rattle.update.proofs.Grown.{Remaining, Ready}
 
 -- what the configuration write sets
@@ -21,7 +22,7 @@ pub record Settled (c r : List ℕ) : Type 0 where
   pub start : ℕ
   pub old : ℕ
   pub new : ℕ
-  pub is : configuration c r ≡ configured c start old new (nextBoundary c r)
+  pub is : written c r 3 ≡ withSegments c start old new (nextBoundary c r)
   pub fit : Fit c start old new (nextBoundary c r)
   pub small : term (nextBoundary c r) < 4294967296
 
@@ -50,23 +51,23 @@ module _ (c r : List ℕ) (f : Facts c) (m : Remaining c r) (ready : 0 < length 
           }
 
   -- The configuration write leaves a sound card,
-  pub configuration-sound : judged (configuration c r) ≡ 0
+  pub configuration-sound : judged (written c r 3) ≡ 0
   configuration-sound = let s = settled in rw (s .is) (configured-sound c (s .start) (s .old) (s .new) (nextBoundary c r) f (s .fit))
 
   -- of 32-bit words,
-  pub configuration-words : Words c → Words (configuration c r)
+  pub configuration-words : Words c → Words (written c r 3)
   configuration-words w = let s = settled in rw (s .is) (configured-words c (s .start) (s .old) (s .new) (nextBoundary c r) f w (s .fit) (s .small))
 
   -- with the same blocks and places,
-  pub configuration-size : blockSize (configuration c r) ≡ blockSize c
+  pub configuration-size : blockSize (written c r 3) ≡ blockSize c
   configuration-size = let s = settled in rw (s .is) (configured-size c (s .start) (s .old) (s .new) (nextBoundary c r) f)
 
   -- and the boundary set.
-  pub configuration-term : word (configuration c r) 6 ≡ term (nextBoundary c r)
+  pub configuration-term : boundaryTerm (written c r 3) ≡ term (nextBoundary c r)
   configuration-term = let s = settled in rw (s .is) (configured-term c (s .start) (s .old) (s .new) (nextBoundary c r) f)
 
-  pub configuration-position : word (configuration c r) 7 ≡ position (nextBoundary c r)
+  pub configuration-position : boundaryPosition (written c r 3) ≡ position (nextBoundary c r)
   configuration-position = let s = settled in rw (s .is) (configured-position c (s .start) (s .old) (s .new) (nextBoundary c r) f)
 
-  pub configuration-boundary : boundary (configuration c r) ≡ nextBoundary c r
+  pub configuration-boundary : boundary (written c r 3) ≡ nextBoundary c r
   configuration-boundary = let s = settled in rw (s .is) (configured-boundary c (s .start) (s .old) (s .new) (nextBoundary c r) f)

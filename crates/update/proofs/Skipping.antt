@@ -18,20 +18,14 @@ use Rattle.block.specs.code.Scan.{scanned}
 use Rattle.block.proofs.Reading.{formed-rising}
 use Rattle.card.specs.Layout.{placeCount, oldStart, oldLength, place, around, oldPlaces, pairsAt}
 use Rattle.card.specs.Sound.{blocksSound}
-use Rattle.card.specs.code.Scan.{Shaped}
+use Rattle.card.proofs.Circle.{around-cons}
 use Rattle.card.proofs.Facts.{Facts}
 use Rattle.card.proofs.Live.{place-words}
+use Rattle.card.proofs.Ordered.{shaped}
 use Rattle.update.specs.declared.old.OldCursor.{OldCursor}
 use Rattle.update.specs.code.Old.{coming, pending, Stands, Advanced, Skipped, started}
 use Rattle.update.specs.Step.{spent}
 use Rattle.update.proofs.Cursor.{place-block}
-
-pub shape : {c : List ℕ} → Facts c → Shaped c
-shape f = record { sizeHigh = f .sizeHigh; countLow = f .countLow; countHigh = f .countHigh; long = f .long }
-
--- a sound card has its configuration words
-pub eight : {c : List ℕ} → Facts c → 8 ≤ length c
-eight f = omega (arith, f .long)
 
 -- the cursor before the first pair: all old pairs are to come
 pub started-coming : (c : List ℕ) → coming c (started c) ≡ pairsAt c (oldPlaces c)
@@ -41,10 +35,10 @@ started-coming c = unfold Rattle.block.specs.Block.pairsFrom in refl
 pub started-stands : (c : List ℕ) → Facts c → Stands c (started c)
 started-stands c f =
     record {
-      shaped = shape f;
+      shaped = shaped f;
       inside = omega arith;
       ends = omega arith;
-      few = omega (arith, f .start, f .room, f .countHigh);
+      within = f .start;
       reading = record { position = 0; formed = unfold Rattle.block.specs.Block.formedFrom in refl };
       sound = f .oldSound;
       rising = rw (started-coming c) (f .oldRising);
@@ -100,21 +94,12 @@ freeing-start c k f =
     let b : oldLength c - 0 ≡ oldLength c = omega arith in
     record { within = zero-le; sound = rw (a, b) (f .oldSound); counted = rw (a, b) (omega arith) }
 
--- the place n of the old segment, and the places after it
-next-place : (c : List ℕ) (n : ℕ) → n < oldLength c →
-    around (placeCount c) (oldStart c + n) (oldLength c - n) ≡ (oldStart c + n) % placeCount c ∷ around (placeCount c) (oldStart c + (n + 1)) (oldLength c - (n + 1))
-unfolding around
-next-place c n h =
-    let a : oldLength c - n ≡ suc (oldLength c - (n + 1)) = omega arith in
-    let b : oldStart c + n + 1 ≡ oldStart c + (n + 1) = omega arith in
-    rw (a, b)
-
 -- its block's last pair tells whether it has one above k
 reaches : {c : List ℕ} {k n : ℕ} → Freeing c k n → n < oldLength c → Words c →
     any (ltb k) (pairs (place c ((oldStart c + n) % placeCount c))) ≡ ltb k (scanned (place c ((oldStart c + n) % placeCount c)) .last)
 reaches {c} {k} {n} s h w =
     let i = (oldStart c + n) % placeCount c in
-    let f = place-block c i _ (rw (next-place c n h) at (s .sound)) .0 in
+    let f = place-block c i _ (rw (around-cons (placeCount c) (oldStart c) (oldLength c) n h) at (s .sound)) .0 in
     any-last (pairs (place c i)) 0 k (formed-rising (place c i) (place-words c i w) f) zero-le ∙ (unfold scanned in rw f)
 
 spent-none : (c : List ℕ) (k i : ℕ) (is : List ℕ) → any (ltb k) (pairs (place c i)) ≡ false → spent c k (i ∷ is) ≡ suc (spent c k is)
@@ -133,8 +118,8 @@ freeing-turn {c} {k} {n} s h w l =
     let none : any (ltb k) (pairs (place c i)) ≡ false = reaches s h w ∙ le-ltb k (scanned (place c i) .last) l in
     record {
       within = omega arith;
-      sound = place-block c i _ (rw (next-place c n h) at (s .sound)) .1;
-      counted = s .counted ∙ rw (next-place c n h, spent-none c k i (around (placeCount c) (oldStart c + (n + 1)) (oldLength c - (n + 1))) none) (omega arith);
+      sound = place-block c i _ (rw (around-cons (placeCount c) (oldStart c) (oldLength c) n h) at (s .sound)) .1;
+      counted = s .counted ∙ rw (around-cons (placeCount c) (oldStart c) (oldLength c) n h, spent-none c k i (around (placeCount c) (oldStart c + (n + 1)) (oldLength c - (n + 1))) none) (omega arith);
     }
 
 pub freeing-stop :
@@ -143,7 +128,7 @@ pub freeing-stop :
 freeing-stop {c} {k} {n} s h w l =
     let i = (oldStart c + n) % placeCount c in
     let some : any (ltb k) (pairs (place c i)) ≡ true = reaches s h w ∙ lt-ltb k (scanned (place c i) .last) l in
-    sym (s .counted ∙ rw (next-place c n h, spent-some c k i (around (placeCount c) (oldStart c + (n + 1)) (oldLength c - (n + 1))) some) (add-zero n))
+    sym (s .counted ∙ rw (around-cons (placeCount c) (oldStart c) (oldLength c) n h, spent-some c k i (around (placeCount c) (oldStart c + (n + 1)) (oldLength c - (n + 1))) some) (add-zero n))
 
 pub freeing-end : {c : List ℕ} {k n : ℕ} → Freeing c k n → oldLength c ≤ n → n ≡ spent c k (oldPlaces c)
 freeing-end {c} {k} {n} s h =

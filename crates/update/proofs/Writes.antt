@@ -16,13 +16,14 @@ use Rattle.pair.proofs.Tests.{and-left, and-right}
 use Rattle.pair.proofs.Each.{Each-getD}
 use Rattle.pair.proofs.Order.{position-word}
 use Rattle.block.proofs.Due.{length-dueBlock, words-dueBlock}
-use Rattle.card.specs.Layout.{blockSize, placeCount, entryWidth, entryAt, placeAt, place}
+use Rattle.card.specs.Layout.{widthOf, blockSize, placeCount, entryWidth, entryAt, entry, placeAt, place}
 use Rattle.pair.proofs.Words.{words-sets, words-cons, words-nil}
 use Rattle.card.proofs.Facts.{Facts}
 use Rattle.card.proofs.Frame.{Alike}
 use Rattle.card.proofs.Free.{due-free, alike-place, alike-entry}
-use Rattle.card.proofs.Parts.{entry, part-sets-after, part-sets-same, word-sets-before}
-use Rattle.update.specs.Step.{duePlace, dueBlock, dueEntry, nextWrite, written}
+use Rattle.card.proofs.Ordered.{shaped}
+use Rattle.card.proofs.Parts.{place-inside, entry-inside, part-sets-after, part-sets-same, word-sets-before}
+use Rattle.update.specs.Step.{duePlace, withWrite, dueBlock, dueEntry, nextWrite, theWrite}
 use Rattle.update.proofs.Grown.{Ready}
 
 pub same-true : (xs ys : List ℕ) → same xs ys ≡ true → xs ≡ ys
@@ -39,17 +40,35 @@ unfolding same
 same-refl [] = refl
 same-refl (x ∷ xs) = rw (eq-eqb x x refl, same-refl xs)
 
--- The next write is the first, the second or the third, each with what then holds of the due place.
+-- the card after each of the three writes
+abbrev pub written : List ℕ → List ℕ → ℕ → List ℕ
+written c r w = withWrite c (theWrite c r w)
+
+-- The due block has the words of a place, and the map entry its words.
+pub length-due-block : (c r : List ℕ) → length (dueBlock c r) ≡ blockSize c
+unfolding dueBlock
+length-due-block c r = length-dueBlock (blockSize c) r
+
+pub length-due-entry : (c r : List ℕ) → length (dueEntry r) ≡ entryWidth c
+unfolding dueEntry widthOf
+length-due-entry c r = refl
+
+-- The next write by what the due place and its map entry hold.
+pub next-write : (c r : List ℕ) → nextWrite c r
+    ≡ cond (eqb (length r) 0) 3 (cond (not (same (place c (duePlace c)) (dueBlock c r))) 1 (cond (not (same (entry c (duePlace c)) (dueEntry r))) 2 3))
+unfolding nextWrite place
+next-write c r = rw (length-due-block c r, length-due-entry c r)
+
+-- It is the first, the second or the third, each with what then holds of the due place.
 pub three :
     (c r : List ℕ) (P : ℕ → Type 0) →
     (0 < length r → P 1) →
     (0 < length r → place c (duePlace c) ≡ dueBlock c r → P 2) →
     ((0 < length r → Ready c r) → P 3) →
     P (nextWrite c r)
-unfolding nextWrite
-three c [] P first second third = third (λ h. absurd (omega arith))
+three c [] P first second third = rw (next-write c []) (third (λ h. absurd (omega arith)))
 three c (x ∷ xs) P first second third =
-    rw (eqb·suc-zero (length xs)) (go (same (place c (duePlace c)) (dueBlock c r)) refl (same (entry c (duePlace c)) (dueEntry r)) refl)
+    rw (next-write c r, eqb·suc-zero (length xs)) (go (same (place c (duePlace c)) (dueBlock c r)) refl (same (entry c (duePlace c)) (dueEntry r)) refl)
   where
     r : List ℕ
     r = x ∷ xs
@@ -61,12 +80,12 @@ three c (x ∷ xs) P first second third =
     go true d true e = third (λ h. record { block = same-true _ _ d; mapped = same-true _ _ e })
 
 -- Any words in the due place leave the card alike.
-pub alike-duePlace : (c ws : List ℕ) → Facts c → length ws ≤ blockSize c → Alike c (sets c (placeAt entryWidth c (duePlace c)) ws)
+pub alike-duePlace : (c ws : List ℕ) → Facts c → length ws ≤ blockSize c → Alike c (sets c (placeAt c (duePlace c)) ws)
 unfolding duePlace
 alike-duePlace c ws f h = alike-place c ws _ (due-free c f) h
 
 -- Any words in its map entry do too.
-pub alike-dueEntry : (c ws : List ℕ) → Facts c → length ws ≤ entryWidth → Alike c (sets c (entryAt entryWidth (duePlace c)) ws)
+pub alike-dueEntry : (c ws : List ℕ) → Facts c → length ws ≤ entryWidth c → Alike c (sets c (entryAt c (duePlace c)) ws)
 unfolding duePlace
 alike-dueEntry c ws f h = alike-entry c ws _ (due-free c f) h
 
@@ -75,50 +94,48 @@ unfolding duePlace
 due-inside c f = due-free c f .inside
 
 module _ (c r : List ℕ) (f : Facts c) where
-  pub length-due-block : length (dueBlock c r) ≡ blockSize c
-  unfolding dueBlock
-  length-due-block = length-dueBlock (blockSize c) r
-
   -- The first write leaves the card alike,
   pub written-first-alike : Alike c (written c r 1)
-  unfolding written
-  written-first-alike = alike-duePlace c (dueBlock c r) f (omega (arith, length-due-block))
+  unfolding theWrite
+  written-first-alike = alike-duePlace c (dueBlock c r) f (omega (arith, length-due-block c r))
 
   -- with the due block in its place.
   pub written-first-place : place (written c r 1) (duePlace c) ≡ dueBlock c r
-  unfolding written place
+  unfolding theWrite place
   written-first-place =
-      let at = placeAt entryWidth c (duePlace c) in
-      let inside : at + length (dueBlock c r) ≤ length c = omega (arith, length-due-block, f .long, mul-le-mul-right {m = suc (duePlace c)} (blockSize c) (due-inside c f)) in
-      rw (word-sets-before (dueBlock c r) c at 1 (omega arith), word-sets-before (dueBlock c r) c at 2 (omega arith))
-      (ap (λ n. take n (drop at (sets c at (dueBlock c r)))) (sym length-due-block) ∙ part-sets-same (dueBlock c r) c at inside)
+      let at = placeAt c (duePlace c) in
+      let inside = place-inside c (duePlace c) (shaped f) (due-inside c f) in
+      rw (word-sets-before (dueBlock c r) c at 0 (omega arith), word-sets-before (dueBlock c r) c at 1 (omega arith), word-sets-before (dueBlock c r) c at 2 (omega arith))
+      (ap (λ n. take n (drop at (sets c at (dueBlock c r)))) (sym (length-due-block c r)) ∙ part-sets-same (dueBlock c r) c at (rw (length-due-block c r) inside))
 
   -- The second write leaves the card alike,
   pub written-second-alike : Alike c (written c r 2)
-  unfolding written dueEntry
-  written-second-alike = alike-dueEntry c (dueEntry r) f (omega arith)
+  unfolding theWrite
+  written-second-alike = alike-dueEntry c (dueEntry r) f (omega (arith, length-due-entry c r))
 
   -- with the map entry in its place,
   pub written-second-entry : entry (written c r 2) (duePlace c) ≡ dueEntry r
-  unfolding written dueEntry
+  unfolding theWrite
   written-second-entry =
-      part-sets-same (dueEntry r) c (entryAt entryWidth (duePlace c)) (omega (arith, f .long, mul-le-mul-left {m = suc (duePlace c)} entryWidth (due-inside c f)))
+      let at = entryAt c (duePlace c) in
+      rw (word-sets-before (dueEntry r) c at 0 (omega arith))
+      (ap (λ n. take n (drop at (sets c at (dueEntry r)))) (sym (length-due-entry c r)) ∙ part-sets-same (dueEntry r) c at (rw (length-due-entry c r) (entry-inside c (duePlace c) (shaped f) (due-inside c f))))
 
   -- and the due place as it was.
   pub written-second-place : place (written c r 2) (duePlace c) ≡ place c (duePlace c)
-  unfolding written place dueEntry
+  unfolding theWrite place
   written-second-place =
-      let at = entryAt entryWidth (duePlace c) in
-      rw (word-sets-before (dueEntry r) c at 1 (omega arith), word-sets-before (dueEntry r) c at 2 (omega arith))
-      (ap (take (blockSize c)) (part-sets-after (dueEntry r) c (placeAt entryWidth c (duePlace c)) at (omega (arith, mul-le-mul-left {m = suc (duePlace c)} entryWidth (due-inside c f)))))
+      let at = entryAt c (duePlace c) in
+      rw (word-sets-before (dueEntry r) c at 0 (omega arith), word-sets-before (dueEntry r) c at 1 (omega arith), word-sets-before (dueEntry r) c at 2 (omega arith))
+      (ap (take (blockSize c)) (part-sets-after (dueEntry r) c (placeAt c (duePlace c)) at (omega (arith, length-due-entry c r, mul-le-mul-left {m = suc (duePlace c)} (entryWidth c) (due-inside c f)))))
 
   -- Both keep 32-bit words.
   pub written-first-words : Words c → Each Proper r → Words (written c r 1)
-  unfolding written dueBlock
-  written-first-words w p = words-sets (dueBlock c r) c (placeAt entryWidth c (duePlace c)) w (words-dueBlock (blockSize c) r (f .sizeHigh) p)
+  unfolding theWrite dueBlock
+  written-first-words w p = words-sets (dueBlock c r) c (placeAt c (duePlace c)) w (words-dueBlock (blockSize c) r (f .sizeHigh) p)
 
   pub written-second-words : Words c → Each Proper r → 0 < length r → Words (written c r 2)
-  unfolding written dueEntry
+  unfolding theWrite dueEntry
   written-second-words w p h =
-      words-sets (dueEntry r) c (entryAt entryWidth (duePlace c)) w
+      words-sets (dueEntry r) c (entryAt c (duePlace c)) w
       (words-cons _ _ (Each-getD Proper r 0 0 h p .termHigh) (words-cons _ _ (position-word (getD r 0 0)) words-nil))

@@ -2,4 +2,4 @@
 pub mod Due
 pub mod Merge
 pub mod Old
-pub mod Outcome
+pub mod Plan

@@ -1,24 +1,30 @@
 // One step of a pass: the due block, its map entry, or the configuration words are written, the first of these that differs.
 ghost use mathlib.Core.Path.{_≡_};
 ghost use Prim.Native.Nat.{_+_, _≤_};
-ghost use lib.ListN.{length};
+ghost use lib.ListN.{length, replicate};
 ghost use lib.Seq.{sets};
 ghost use Rattle.pair.specs.Tests.{same};
-ghost use Rattle.card.specs.Layout.{blockSize, oldLength};
+ghost use Rattle.card.specs.Layout.{blockSize};
 ghost use Rattle.card.specs.Sound.{judged};
-ghost use Rattle.update.specs.Step.{configured, step};
+ghost use Rattle.card.specs.code.Configuration.{put};
+ghost use Rattle.card.specs.code.Scan.{Ordered};
+ghost use Rattle.batch.specs.Batch.{batchNumber};
+ghost use Rattle.update.specs.Step.{step};
 ghost use Rattle.update.specs.Answer.{numberOf, writeOf, freedOf, finishedOf, answerOf};
-ghost use Rattle.update.specs.code.Outcome.{freedBy, configurationOf, outcome};
-use card::CONFIGURATION_WORDS;
-use card::ENTRY_WIDTH;
+ghost use Rattle.update.specs.code.Plan.{Freed, followed, settling, Planned};
+use card::layout;
+use card::layout::CONFIGURATION_WORDS;
+use card::layout::Configuration;
 use due::Due;
-use pair::Pair;
 
 mod due;
 mod merge;
 mod old;
 
 const BLOCK_MOST: usize = 1024;
+
+// The words of a pair.
+const PAIR_WORDS: usize = 2;
 
 // The number of a step whose configuration write would leave no place free.
 const CROWDED: u32 = 8;
@@ -114,85 +120,125 @@ fn write(card: &mut [u32], at: usize, words: &[u32])
     }
 }
 
-// Writes the segments and the boundary.
-fn configure(card: &mut [u32], start: u32, old: u32, new: u32, rank: u64)
-    requires { ⌜ judged (now card) ≡ 0 ⌝ }
-    ensures { λ _. ⌜ now (card .exit) ≡ configured (now (card .entry)) start old new rank ⌝ }
-{
-    let bound = Pair::of_rank(rank);
-    let places = card[2];
-    card[3] = start % places;
-    card[4] = old;
-    card[5] = new;
-    card[6] = bound.term;
-    card[7] = bound.position;
-}
-
 // How many old places the configuration write frees.
-fn freed(card: &[u32], due: Due) -> u32
+fn freed(card: &[u32], k: Configuration, due: Due) -> u16
     requires { ⌜ judged (now card) ≡ 0 ⌝ }
-    ensures { λ r. ⌜ (r ≡ freedBy (now (card .entry)) due) × (r ≤ oldLength (now (card .entry))) ⌝ }
+    requires { ⌜ Ordered (now card) k ⌝ }
+    ensures { λ r. ⌜ Freed (now (card .entry)) due r ⌝ }
 {
     if due.more {
-        return old::spent(card, due.last) as u32;
+        return old::spent(card, due.last);
     }
-    card[4]
+    k.old_length
 }
 
-// Makes the configuration write.
-fn settle(card: &mut [u32], due: Due, freed: u32, grown: u32) -> StepAnswer
-    requires { ⌜ judged (now card) ≡ 0 ⌝ }
-    requires { ⌜ freed ≤ oldLength (now card) ⌝ }
-    ensures { λ r. ⌜ (r ≡ answerOf (configurationOf (now (card .entry)) due freed grown)) × (now (card .exit) ≡ configurationOf (now (card .entry)) due freed grown .card) ⌝ }
+// The configuration that the configuration write sets.
+fn following(k: Configuration, due: Due, freed: u16, grown: u16) -> Configuration
+    requires { ⌜ freed ≤ k .«old_length» ⌝ }
+    ensures { λ r. ⌜ r ≡ followed k due freed grown ⌝ }
 {
-    let start = card[3] + freed;
-    let left = card[4] - freed;
+    let format = k.format;
+    let size = k.size;
+    let places = k.places;
+    let old_start = k.place_on(k.old_start, freed);
     if due.more {
-        configure(card, start, left, grown, due.last);
-        return StepAnswer::Configuration {
-            freed,
-            finished: false,
+        return Configuration {
+            format,
+            size,
+            places,
+            old_start,
+            old_length: k.old_length - freed,
+            new_length: grown,
+            boundary: due.last,
         };
     }
-    configure(card, start, grown, 0, 0);
-    StepAnswer::Configuration {
-        freed,
-        finished: true,
+    Configuration {
+        format,
+        size,
+        places,
+        old_start,
+        old_length: grown,
+        new_length: 0,
+        boundary: 0,
     }
 }
 
-// Makes the next write for a due block, or refuses.
-fn advance(card: &mut [u32], block: &[u32], due: Due) -> StepAnswer
-    requires { ⌜ judged (now card) ≡ 0 ⌝ }
-    requires { ⌜ length (now block) ≡ blockSize (now card) ⌝ }
-    ensures { λ r. ⌜ (r ≡ answerOf (outcome (now (card .entry)) (now (block .entry)) due)) × (now (card .exit) ≡ outcome (now (card .entry)) (now (block .entry)) due .card) ⌝ }
+// A write: where in the card it stands and how many words it has, and the answer that names it.
+struct WritePlan {
+    start: usize,
+    count: usize,
+    answer: StepAnswer,
+}
+
+// Plans the configuration write.
+fn settle(words: &mut [u32], k: Configuration, due: Due, freed: u16, grown: u16) -> WritePlan
+    requires { ⌜ freed ≤ k .«old_length» ⌝ }
+    ensures { λ r. ⌜ (r ≡ settling due freed) × (now (words .exit) ≡ put (now (words .entry)) (followed k due freed grown)) ⌝ }
 {
-    let places = card[2];
-    let old_length = card[4];
-    let new_length = card[5];
-    let freed = freed(card, due);
+    let next = following(k, due, freed, grown);
+    next.put(words);
+    let finished = !due.more;
+    WritePlan {
+        start: 0,
+        count: CONFIGURATION_WORDS,
+        answer: StepAnswer::Configuration {
+            freed: freed as u32,
+            finished,
+        },
+    }
+}
+
+// Plans the next write for a due block, whose words become the write's, or refuses.
+fn plan(card: &[u32], words: &mut [u32], due: Due) -> WritePlan
+    requires { ⌜ judged (now card) ≡ 0 ⌝ }
+    requires { ⌜ length (now words) ≡ blockSize (now card) ⌝ }
+    ensures { λ r. ⌜ Planned (now (card .entry)) (now (words .entry)) due (now (words .exit)) r ⌝ }
+{
+    let k = Configuration::of(card);
+    let freed = freed(card, k, due);
     if due.used == 0 {
-        return settle(card, due, freed, new_length);
+        return settle(words, k, due, freed, k.new_length);
     }
-    if places <= old_length - freed + (new_length + 1) {
-        return StepAnswer::Refused(CROWDED);
+    let grown = k.new_length + 1;
+    if k.places <= k.old_length - freed + grown {
+        return WritePlan {
+            start: 0,
+            count: 0,
+            answer: StepAnswer::Refused(CROWDED),
+        };
     }
-    let place = ((card[3] + old_length + new_length) % places) as usize;
-    let start = old::place_start(card, place);
-    let end = start + block.len();
-    if !same(&card[start..end], block) {
-        write(card, start, block);
-        return StepAnswer::Block;
+    let place = k.due_place();
+    if !same(layout::place(card, place), words) {
+        return WritePlan {
+            start: layout::place_start(card, place),
+            count: words.len(),
+            answer: StepAnswer::Block,
+        };
     }
-    let entry = CONFIGURATION_WORDS + ENTRY_WIDTH * place;
-    let term = block[0];
-    let position = block[2];
-    if !((card[entry] == term) & (card[entry + 1] == position)) {
-        card[entry] = term;
-        card[entry + 1] = position;
-        return StepAnswer::MapEntry;
+    words[1] = words[2]; // the first pair: its term, and its position after the entry's count
+    if !same(layout::entry(card, place), &words[..PAIR_WORDS]) {
+        return WritePlan {
+            start: layout::entry_start(card, place),
+            count: PAIR_WORDS,
+            answer: StepAnswer::MapEntry,
+        };
     }
-    settle(card, due, freed, new_length + 1)
+    settle(words, k, due, freed, grown)
+}
+
+// Makes the next write of a sound card with a batch in order, in as many words of room as a block has.
+fn advance(card: &mut [u32], batch: &[u32], words: &mut [u32]) -> StepAnswer
+    requires { ⌜ judged (now card) ≡ 0 ⌝ }
+    requires { ⌜ batchNumber (now batch) ≡ 0 ⌝ }
+    requires { ⌜ now words ≡ replicate (blockSize (now card)) 0 ⌝ }
+    ensures { λ r. ⌜ (r ≡ answerOf (step (now (card .entry)) (now (batch .entry)))) × (now (card .exit) ≡ step (now (card .entry)) (now (batch .entry)) .card) ⌝ }
+{
+    let due = due::fill(card, batch, words);
+    let plan = plan(card, words, due);
+    let start = plan.start;
+    let count = plan.count;
+    write(card, start, &words[..count]);
+    plan.answer
 }
 
 // One step of a pass over a card with a batch.
@@ -207,8 +253,8 @@ pub fn step(card: &mut [u32], batch: &[u32]) -> StepAnswer
     if number != 0 {
         return StepAnswer::Refused(number);
     }
-    let size = card[1] as usize;
+    let k = Configuration::of(card);
+    let size = k.size as usize;
     let mut buffer = [0u32; BLOCK_MOST];
-    let due = due::fill(card, batch, &mut buffer[..size]);
-    advance(card, &buffer[..size], due)
+    advance(card, batch, &mut buffer[..size])
 }

@@ -6,7 +6,7 @@ ghost use Rattle.batch.specs.code.Search.{lesser};
 ghost use Rattle.update.specs.code.Merge.{Begun, Merges, Merged};
 use crate::old;
 use crate::old::OldCursor;
-use pair::Pair;
+use card::layout::Configuration;
 
 // A place in the merge: the rank of the pair in hand, before the first pair the boundary's, 0 at the end; the old pairs, the record from which
 // additions are sought, and the cursor of decisions.
@@ -38,12 +38,9 @@ pub(crate) fn start(card: &[u32]) -> Merge
     requires { ⌜ judged (now card) ≡ 0 ⌝ }
     ensures { λ r. ⌜ Begun (now (card .entry)) r ⌝ }
 {
-    let boundary = Pair {
-        term: card[6],
-        position: card[7],
-    };
+    let k = Configuration::of(card);
     Merge {
-        rank: boundary.rank(),
+        rank: k.boundary,
         old: old::first(card),
         addition: 0,
         decisions: batch::START,

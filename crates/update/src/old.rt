@@ -1,22 +1,19 @@
 // The old segment read pair by pair.
 ghost use mathlib.Core.Path.{_≡_};
-ghost use Prim.Native.Nat.{_-_, _≤_, _<_};
-ghost use lib.ListN.{length, take, drop};
-ghost use Rattle.block.specs.code.Scan.{readsOn};
-ghost use Rattle.card.specs.Layout.{entryWidth, placeCount, placeAt, oldPlaces};
-ghost use Rattle.card.specs.code.Scan.{Shaped};
+ghost use Rattle.card.specs.Layout.{oldPlaces};
 ghost use Rattle.card.specs.Sound.{judged};
 ghost use Rattle.update.specs.code.Old.{EntryAt, entryAtWords, Stands, Advanced, Skipped, started};
 ghost use Rattle.update.specs.Step.{spent};
-use card::CONFIGURATION_WORDS;
-use card::ENTRY_WIDTH;
+use block::wanted::reads_on;
+use card::layout;
+use card::layout::Configuration;
 use pair::Pair;
 
 // A place in the old segment: the next place and how many are left; the next word of the block in hand and its end; the term in
 // hand and how many of its positions are still to come; the rank of the pair in hand, 0 for none.
 pub(crate) struct OldCursor {
-    pub(crate) place: usize,
-    pub(crate) places: usize,
+    pub(crate) place: u16,
+    pub(crate) places: u16,
     pub(crate) at: usize,
     pub(crate) end: usize,
     pub(crate) term: u32,
@@ -24,28 +21,8 @@ pub(crate) struct OldCursor {
     pub(crate) rank: u64,
 }
 
-// Where a place starts.
-pub(crate) fn place_start(card: &[u32], i: usize) -> usize
-    requires { ⌜ Shaped (now card) ⌝ }
-    requires { ⌜ i < placeCount (now card) ⌝ }
-    ensures { λ r. ⌜ r ≡ placeAt entryWidth (now (card .entry)) i ⌝ }
-{
-    CONFIGURATION_WORDS + ENTRY_WIDTH * card[2] as usize + i * card[1] as usize
-}
-
-// Whether another entry is to be read at a word of a block.
-fn entry_follows(card: &[u32], at: usize, end: usize) -> bool
-    requires { ⌜ (at ≤ end) × (end ≤ length (now card)) ⌝ }
-    ensures { λ r. ⌜ r ≡ readsOn (take (end - at) (drop at (now (card .entry)))) ⌝ }
-{
-    if end <= at + 2 {
-        return false;
-    }
-    card[at] != 0
-}
-
 // Reads the first pair of the entry at a word.
-fn entry(card: &[u32], at: usize, end: usize, place: usize, places: usize) -> OldCursor
+fn entry(card: &[u32], at: usize, end: usize, place: u16, places: u16) -> OldCursor
     requires { ⌜ EntryAt (now card) at end ⌝ }
     ensures { λ r. ⌜ r ≡ entryAtWords (now (card .entry)) at end place places ⌝ }
 {
@@ -92,7 +69,7 @@ fn next(card: &[u32], old: OldCursor) -> OldCursor
             rank: pair.rank(),
         };
     }
-    if entry_follows(card, at, end) {
+    if reads_on(&card[..end], at) {
         return entry(card, at, end, place, places);
     }
     if places == 0 {
@@ -106,9 +83,10 @@ fn next(card: &[u32], old: OldCursor) -> OldCursor
             rank: 0,
         };
     }
-    let start = place_start(card, place % card[2] as usize);
-    let size = card[1] as usize;
-    entry(card, start, start + size, place + 1, places - 1)
+    let k = Configuration::of(card);
+    let start = layout::place_start(card, place);
+    let end = start + k.size as usize;
+    entry(card, start, end, k.place_on(place, 1), places - 1)
 }
 
 // The first old pair.
@@ -116,9 +94,10 @@ pub(crate) fn first(card: &[u32]) -> OldCursor
     requires { ⌜ judged (now card) ≡ 0 ⌝ }
     ensures { λ r. ⌜ Advanced (now (card .entry)) (started (now (card .entry))) r ⌝ }
 {
+    let k = Configuration::of(card);
     let old = OldCursor {
-        place: card[3] as usize,
-        places: card[4] as usize,
+        place: k.old_start,
+        places: k.old_length,
         at: 0,
         end: 0,
         term: 0,
@@ -141,19 +120,16 @@ pub(crate) fn skip(card: &[u32], old: OldCursor, rank: u64) -> OldCursor
 }
 
 // How many leading old places have no pair above a rank.
-pub(crate) fn spent(card: &[u32], rank: u64) -> usize
+pub(crate) fn spent(card: &[u32], rank: u64) -> u16
     requires { ⌜ judged (now card) ≡ 0 ⌝ }
     ensures { λ r. ⌜ r ≡ spent (now (card .entry)) rank (oldPlaces (now (card .entry))) ⌝ }
 {
-    let old_start = card[3] as usize;
-    let old_length = card[4] as usize;
-    let places = card[2] as usize;
-    let size = card[1] as usize;
-    let mut n: usize = 0;
-    while n < old_length {
-        let start = place_start(card, (old_start + n) % places);
-        let end = start + size;
-        let block = block::scan(&card[start..end]);
+    let k = Configuration::of(card);
+    let start = k.old_start;
+    let len = k.old_length;
+    let mut n: u16 = 0;
+    while n < len {
+        let block = block::scan(layout::place(card, k.place_on(start, n)));
         if rank < block.last {
             return n;
         }

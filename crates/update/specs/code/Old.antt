@@ -58,7 +58,7 @@ pub record Stands (c : List ℕ) (o : OldCursor) : Type 0 where
   pub shaped : Shaped c
   pub inside : o .at ≤ o .end
   pub ends : o .end ≤ length c
-  pub few : o .place + o .places ≤ 2048
+  pub within : o .place < placeCount c
   pub reading : Reading c (o .at) (o .end) (o .term) (o .count)
   pub sound : blocksSound c (around (placeCount c) (o .place) (o .places)) ≡ true
   pub rising : risingFrom (o .rank) (coming c o) ≡ true

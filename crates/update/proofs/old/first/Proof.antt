@@ -1,30 +1,24 @@
 -- `update::old::first` meets its contract: before the first pair the cursor stands.
-use native.Mathlib.Omega.{arith}
+use mathlib.Core.Path.{_≡_}
+use Rattle.card.specs.code.Scan.{Ordered}
 use Rattle.card.proofs.Facts.{facts}
-use Rattle.update.proofs.Skipping.{eight, started-stands}
+use Rattle.card.proofs.Ordered.{ordered-sound}
+use Rattle.update.proofs.Skipping.{started-stands}
 use borrow.Author.Needs.{needs}
 use Rattle.update.proofs.old.first.Statement.{statement}
 use Rattle.update.proofs.old.first.Tie as tie
 
-shared-slice-read-t4 : tie.Need-shared-slice-read-t4
-shared-slice-read-t4 c = omega (arith, eight (facts _ (c .before .before .pre)))
+in-order : (c : tie.After-of) → Ordered (c .before .before .args .card .now) (c .of .result)
+in-order c = ordered-sound (facts _ (c .before .before .pre)) (c .of .ensures)
 
-cast-t5 : tie.Need-cast-t5
-cast-t5 c = omega (arith, c .shared-slice-known2 .given 3)
-
-shared-slice-read-t7 : tie.Need-shared-slice-read-t7
-shared-slice-read-t7 c = omega (arith, eight (facts _ (c .before .before .before .pre)))
-
-cast-t8 : tie.Need-cast-t8
-cast-t8 c = omega (arith, c .shared-slice-known3 .given 4)
+of-requires : tie.Need-of-requires
+of-requires c κs = search needs
 
 next-requires : tie.Need-next-requires
-next-requires c κs = started-stands _ (facts _ (c .before .before .before .pre))
+next-requires c κs = let o = in-order c in rw (o .ofStart, o .ofOld) (started-stands _ (facts _ (c .before .before .pre)))
 
 returns : tie.Need-returns
-returns c = search needs
+returns c = let o = in-order (c .before) in rw (o .ofStart, o .ofOld) at (c .next .ensures)
 
 pub first-spec : {M : Type 1} → statement M
-first-spec =
-    tie.close
-    (tie.spec shared-slice-read-t4 cast-t5 shared-slice-read-t7 cast-t8 next-requires returns)
+first-spec = tie.close (tie.spec of-requires next-requires returns)

@@ -1,45 +1,44 @@
 -- `update::old::next` meets its contract: each way of going on is one law of proofs/Cursor.
-use Prim.Native.Nat.{_+_, _≤_}
+use lib.Seq.{length-take-le}
+use Prim.Native.Nat.{_+_, _%_}
 use native.Mathlib.Omega.{arith}
-use native.Mathlib.Nat.{mod-lt}
-use mathlib.Core.Path.{_≡_, sym, _∙_}
+use mathlib.Core.Path.{_≡_, sym, ap, _∙_}
 use mathlib.Core.Bool.{false}
 use denote.Ref.{now}
-use lib.ListN.{length}
 use Rattle.block.specs.code.Scan.{readsOn}
-use Rattle.card.specs.Layout.{blockSize}
+use Rattle.card.specs.Layout.{blockSize, placeCount}
+use Rattle.card.proofs.Ordered.{place-on-circle}
+use Rattle.card.proofs.Parts.{place-inside, drop-take}
 use Rattle.update.specs.code.Old.{rest}
-use Rattle.card.proofs.Parts.{place-inside}
 use Rattle.update.proofs.Cursor.{position-room, advanced-position, entry-there, advanced-entry, advanced-end, place-entered, advanced-place}
 use borrow.Author.Needs.{needs}
 use Rattle.update.proofs.old.next.Statement.{statement}
 use Rattle.update.proofs.old.next.Tie as tie
 
--- no position of the term in hand is left
 none : (c : tie.Else1) → c .before .before .args .old .count ≡ 0
 none c = omega (arith, c .if1 .left)
 
--- nor an entry of the block in hand
-off : (c : tie.Else2) → readsOn (rest (now (c .before .before .before .before .args .card)) (c .before .before .before .before .args .old .at) (c .before .before .before .before .args .old .end)) ≡ false
-off c = sym (c .before .entry-follows .ensures) ∙ c .if2 .left
+reads : (c : tie.After-reads-on) → let a = c .before .before .before .before .args in c .reads-on .result ≡ readsOn (rest (now (a .card)) (a .old .at) (a .old .end))
+reads c = let a = c .before .before .before .before .args in c .reads-on .ensures ∙ ap readsOn (drop-take (a .old .at) (a .old .end) (now (a .card)))
 
--- the next place lies in the card
-start-inside : (c : tie.After-place-start) → c .place-start .result + blockSize (now (c .before .before .before .before .before .before .before .args .card)) ≤ length (now (c .before .before .before .before .before .before .before .args .card))
-start-inside c =
-    let s = c .before .before .before .before .before .before .before in
-    rw (c .place-start .ensures) (place-inside _ _ (s .pre .shaped) (mod-lt (s .args .old .place) (omega (arith, s .pre .shaped .countLow))))
+-- the configuration's fields are the words
+size : (c : tie.After-of) → c .of .result .size ≡ blockSize (now (c .before .before .before .before .before .before .before .args .card))
+size c = omega (arith, c .of .ensures .ofSize, c .before .before .before .before .before .before .before .pre .shaped .sizeHigh)
 
-mul-t13 : tie.Need-mul-t13
-mul-t13 c = search needs
+places : (c : tie.After-of) → c .of .result .places ≡ placeCount (now (c .before .before .before .before .before .before .before .args .card))
+places c = omega (arith, c .of .ensures .ofPlaces, c .before .before .before .before .before .before .before .pre .shaped .countHigh)
 
-shared-slice-read-t15 : tie.Need-shared-slice-read-t15
-shared-slice-read-t15 c = let s = c .before .before .before in omega (arith, position-room (s .pre) (c .before .if1 .taken), s .pre .ends)
+mul-t14 : tie.Need-mul-t14
+mul-t14 c = search needs
 
-add-t13 : tie.Need-add-t13
-add-t13 c = search needs
+shared-slice-read-t16 : tie.Need-shared-slice-read-t16
+shared-slice-read-t16 c = let s = c .before .before .before in omega (arith, position-room (s .pre) (c .before .if1 .taken), s .pre .ends)
 
-sub-t16 : tie.Need-sub-t16
-sub-t16 c = search needs
+add-t14 : tie.Need-add-t14
+add-t14 c = search needs
+
+sub-t17 : tie.Need-sub-t17
+sub-t17 c = search needs
 
 rank-requires : tie.Need-rank-requires
 rank-requires c κs = search needs
@@ -47,79 +46,75 @@ rank-requires c κs = search needs
 returns : tie.Need-returns
 returns c = rw (c .rank .ensures) (advanced-position (c .before .before .before .before .pre) (c .before .before .if1 .taken))
 
-entry-follows-requires : tie.Need-entry-follows-requires
-entry-follows-requires c κs = search needs
+slice-aggregate-reads-on : tie.Need-slice-aggregate-reads-on
+slice-aggregate-reads-on c = let s = c .before .before .before in sym (length-take-le (s .args .old .end) (now (s .args .card)) (s .pre .ends))
+
+reads-on-requires : tie.Need-reads-on-requires
+reads-on-requires c κs = search needs
 
 entry-requires : tie.Need-entry-requires
-entry-requires c κs = entry-there (c .before .before .before .before .pre) (none (c .before .before)) (sym (c .before .entry-follows .ensures) ∙ c .if2 .taken)
+entry-requires c κs = let e = c .before .before .before in entry-there (e .before .before .pre) (none e) (sym (reads (c .before)) ∙ c .if2 .taken)
 
 returns-2 : tie.Need-returns-2
-returns-2 c =
-    let t = c .before in
-    rw (c .entry .ensures) (advanced-entry (t .before .before .before .before .pre) (none (t .before .before)) (sym (t .before .entry-follows .ensures) ∙ t .if2 .taken))
+returns-2 c = let t = c .before in let e = t .before .before .before in rw (c .entry .ensures) (advanced-entry (e .before .before .pre) (none e) (sym (reads (t .before)) ∙ t .if2 .taken))
 
 returns-3 : tie.Need-returns-3
-returns-3 c = advanced-end (c .before .before .before .before .before .pre) (none (c .before .before .before)) (off (c .before)) (c .if3 .taken)
+returns-3 c = let t = c .before in let e = t .before .before .before in advanced-end (e .before .before .pre) (none e) (sym (reads (t .before)) ∙ t .if2 .left) (c .if3 .taken)
 
-shared-slice-read-place-start : tie.Need-shared-slice-read-place-start
-shared-slice-read-place-start c = search needs
-
-cast-place-start : tie.Need-cast-place-start
-cast-place-start c = search needs
-
-rem-place-start : tie.Need-rem-place-start
-rem-place-start c = search needs
+of-requires : tie.Need-of-requires
+of-requires c κs = search needs
 
 place-start-requires : tie.Need-place-start-requires
-place-start-requires c κs = let s = c .before .before .before .before .before .before in (s .pre .shaped, mod-lt (s .args .old .place) (omega (arith, s .pre .shaped .countLow)))
+place-start-requires c κs = search needs
 
-shared-slice-read-size : tie.Need-shared-slice-read-size
-shared-slice-read-size c = search needs
+cast-end : tie.Need-cast-end
+cast-end c = search needs
 
-cast-size : tie.Need-cast-size
-cast-size c = search needs
+add-end : tie.Need-add-end
+add-end c = let k = c .before .before in
+    let s = k .before .before .before .before .before .before .before in
+    omega (arith, size k, c .before .place-start .ensures, place-inside (now (s .args .card)) (s .args .old .place) (s .pre .shaped) (s .pre .within))
 
-add-entry : tie.Need-add-entry
-add-entry c = omega (arith, start-inside (c .before))
-
-add-entry-2 : tie.Need-add-entry-2
-add-entry-2 c = search needs
+place-on-requires : tie.Need-place-on-requires
+place-on-requires c κs = search needs
 
 sub-entry : tie.Need-sub-entry
 sub-entry c = search needs
 
 entry-requires-2 : tie.Need-entry-requires-2
-entry-requires-2 c κs = rw (c .before .place-start .ensures) (place-entered (c .before .before .before .before .before .before .before .before .pre) (none (c .before .before .before .before .before .before)) (c .before .before .before .if3 .left) .entry)
+entry-requires-2 c κs = let k = c .before .before .before in
+    let s = k .before .before .before .before .before .before .before in
+    rw (c .before .before .place-start .ensures, size k) (place-entered (s .pre) (k .before .if3 .left) .entry)
 
 returns-4 : tie.Need-returns-4
-returns-4 c =
-    let p = c .before .before in
-    let e = p .before .before in
-    rw (c .entry2 .ensures, p .place-start .ensures)
-    (advanced-place (e .before .before .before .before .before .pre) (none (e .before .before .before)) (off (e .before)) (e .if3 .left))
+returns-4 c = let p = c .before in
+    let k = p .before .before .before in
+    let e = k .before .before .before .before .before in
+    let s = e .before .before in
+    rw (c .entry2 .ensures, p .before .before .place-start .ensures, size k)
+    (advanced-place (p .place-on .result) (p .place-on .ensures ∙ place-on-circle _ (s .args .old .place) 1 (s .pre .shaped) (places k)) (s .pre) (none e)
+    (sym (reads (k .before .before .before)) ∙ k .before .before .if2 .left) (k .before .if3 .left))
 
 pub next-spec : {M : Type 1} → statement M
 next-spec =
     tie.close
     (tie.spec
-    mul-t13
-    shared-slice-read-t15
-    add-t13
-    sub-t16
+    mul-t14
+    shared-slice-read-t16
+    add-t14
+    sub-t17
     rank-requires
     returns
-    entry-follows-requires
+    slice-aggregate-reads-on
+    reads-on-requires
     entry-requires
     returns-2
     returns-3
-    shared-slice-read-place-start
-    cast-place-start
-    rem-place-start
+    of-requires
     place-start-requires
-    shared-slice-read-size
-    cast-size
-    add-entry
-    add-entry-2
+    cast-end
+    add-end
+    place-on-requires
     sub-entry
     entry-requires-2
     returns-4)
