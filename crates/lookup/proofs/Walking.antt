@@ -1,90 +1,63 @@
 -- The walk over the blocks that a lookup reads: what is ahead of it, block by block.
 use Prim.Native.Nat.{ℕ, zero, suc, _+_, _*_, _-_, _%_, _≤_, _<_, zero-le}
-use native.Mathlib.Nat.{mul-le-mul-right, mod-eq-of-lt, mod-lt}
+use native.Mathlib.Nat.{mod-eq-of-lt, mod-lt}
 use native.Mathlib.Omega.{arith}
 use mathlib.Core.Path.{_≡_, refl, sym, ap, _∙_}
-use mathlib.Core.Bool.{Bool, true, false, cond, _&&_, true≢false, false≢true}
+use mathlib.Core.Bool.{Bool, true}
 use mathlib.Core.List.{List, [], _∷_, _++_, map, append-assoc}
-use borrow.Author.Tests.{leb-true, eqb-true, le-ltb, le-leb, eq-eqb}
-use lib.ListN.{length, take, drop, length-take, length-map}
+use borrow.Author.Tests.{ne-eqb}
+use lib.ListN.{length, take, drop, length-take, length-drop, length-map}
 use lib.Seq.{drop-drop}
-use lib.Dec.{ltb, leb, eqb}
 use Rattle.pair.specs.Rank.{position}
 use Rattle.pair.specs.Rising.{Each, keep}
 use Rattle.pair.proofs.Keep.{keep-append}
-use Rattle.pair.proofs.Tests.{and-left, and-right}
 use Rattle.block.specs.Block.{pairs, wordsBefore, formed}
 use Rattle.block.specs.code.Wanted.{isWanted, BlockPart}
 use Rattle.block.specs.declared.wanted.Part.{Part}
 use Rattle.block.proofs.Seeking.{take-part}
-use Rattle.card.proofs.Parts.{length-part, place-inside}
-use Rattle.card.specs.Layout.{blockSize, placeCount, entryWidth, cardLength, placeAt, place, around, pairsAt}
+use Rattle.card.proofs.Parts.{length-part}
+use Rattle.card.specs.Layout.{blockSize, placeCount, placeAt, place, around, pairsAt}
+use Rattle.card.specs.code.Configuration.{ConfigurationOf, placeOn}
+use Rattle.card.specs.declared.layout.Configuration.{Configuration}
 use Rattle.card.proofs.Circle.{around-mod}
 use Rattle.lookup.specs.declared.walk.Stretch.{Stretch}
 use Rattle.lookup.specs.declared.walk.Walk.{Walk}
 use Rattle.lookup.specs.declared.walk.StretchRun.{StretchRun}
-use Rattle.card.specs.code.Scan.{Shaped}
-use Rattle.lookup.specs.code.Walk.{isShaped, PlacePart, postings, runOf, runStartOf, aheadOf, firstRun, firstStart, Ready, Sought, orElse, orElseAt, ReadyWalk, Next}
+use Rattle.lookup.specs.code.Walk.{PlacePart, postings, runOf, runStartOf, aheadOf, firstRun, firstStart, Ready, Sought, orElse, orElseAt, ReadyWalk, Next}
 
--- the shape of a card
-pub limits : (b n : ℕ) → ((leb b 1024 && leb 2 n) && leb n 1024) ≡ true → (b ≤ 1024) × (2 ≤ n) × (n ≤ 1024)
-limits b n e =
-    let low = and-left (leb b 1024 && leb 2 n) (leb n 1024) e in
-    (leb-true _ _ (and-left (leb b 1024) (leb 2 n) low), leb-true _ _ (and-right (leb b 1024) (leb 2 n) low), leb-true _ _ (and-right (leb b 1024 && leb 2 n) (leb n 1024) e))
-
-pub shaped-facts : (c : List ℕ) → isShaped c ≡ true → Shaped c
-unfolding isShaped
-shaped-facts c e = go (ltb (length c) 8) ((leb (blockSize c) 1024 && leb 2 (placeCount c)) && leb (placeCount c) 1024) refl e
-  where
-    go : (x y : Bool) → ((leb (blockSize c) 1024 && leb 2 (placeCount c)) && leb (placeCount c) 1024) ≡ y → cond x false (cond y (eqb (length c) (cardLength entryWidth (blockSize c) (placeCount c))) false) ≡ true → Shaped c
-    go true y f g = absurd (false≢true g)
-    go false false f g = absurd (false≢true g)
-    go false true f g =
-        let l = limits (blockSize c) (placeCount c) f in
-        record { sizeHigh = l .0; countLow = l .1; countHigh = l .2; long = eqb-true _ _ g }
-
-pub shaped-is : (c : List ℕ) → Shaped c → isShaped c ≡ true
-unfolding isShaped
-shaped-is c s =
-    simp (le-ltb (length c) 8 (omega (arith, s .long)), le-leb (blockSize c) 1024 (s .sizeHigh), le-leb 2 (placeCount c) (s .countLow), le-leb (placeCount c) 1024 (s .countHigh), eq-eqb (length c) (cardLength entryWidth (blockSize c) (placeCount c)) (s .long))
-
-abbrev inLimit : List ℕ → Bool
-inLimit c = (leb (blockSize c) 1024 && leb 2 (placeCount c)) && leb (placeCount c) 1024
-
-pub shape-off : (c : List ℕ) → 8 ≤ length c → inLimit c ≡ false → false ≡ isShaped c
-unfolding isShaped
-shape-off c h e = rw (le-ltb (length c) 8 h, e)
-
-pub shape-on : (c : List ℕ) → 8 ≤ length c → inLimit c ≡ true → eqb (length c) (cardLength entryWidth (blockSize c) (placeCount c)) ≡ isShaped c
-unfolding isShaped
-shape-on c h e = rw (le-ltb (length c) 8 h, e)
-
-pub product-small : (b n : ℕ) → b ≤ 1024 → n ≤ 1024 → n * b ≤ 1048576
-product-small b n h l = omega (arith, mul-le-mul-right b l)
-
--- what a block answers, said of the card
-pub place-part :
-    {c : List ℕ} {i t a z : ℕ} {r : Part} → Shaped c → i < placeCount c →
-    BlockPart (take (placeAt entryWidth c i + blockSize c - placeAt entryWidth c i) (drop (placeAt entryWidth c i) c)) t a z r →
-    PlacePart c i t a z (record { start = placeAt entryWidth c i + r .start; len = r .len })
-unfolding place
-place-part {c} {i} {t} {a} {z} {r} s h p =
+-- what a block answers, said of the card: nothing,
+pub place-none : {c : List ℕ} {i t a z : ℕ} {r : Part} → BlockPart (place c i) t a z r → r .len ≡ 0 → PlacePart c i t a z (record { start = 0; len = 0 })
+place-none p e =
     record {
-      inside = omega (arith, p′ .inside, long, place-inside c i s h);
-      positions = λ f. rw (← drop-drop (r .start) (placeAt entryWidth c i) c)
-          (sym (take-part (drop (placeAt entryWidth c i) c) (r .start) (r .len) (blockSize c) (omega (arith, p′ .inside, long)))
-          ∙ p′ .positions f);
-      before = λ f l. ap (λ n. placeAt entryWidth c i + n) (p′ .before f l);
+      inside = zero-le;
+      positions = λ f. rw e at (p .positions f);
+      before = λ f l. absurd (let z : ⊥ = omega arith in z);
+    }
+
+-- or something, which lies in the card.
+pub part-inside : (c : List ℕ) (i : ℕ) {t a z : ℕ} {r : Part} → BlockPart (place c i) t a z r → (r .len ≡ 0 → ⊥) → placeAt c i + r .start + r .len ≤ length c
+part-inside c i p h =
+    omega (arith, p .inside, long)
+  where
+    long : length (place c i) ≤ length c - placeAt c i
+    long = unfold place in simp (length-take, length-drop) (omega arith)
+
+pub place-some :
+    {c : List ℕ} {i t a z : ℕ} {r : Part} → BlockPart (place c i) t a z r → (r .len ≡ 0 → ⊥) →
+    PlacePart c i t a z (record { start = placeAt c i + r .start; len = r .len })
+place-some {c} {i} {t} {a} {z} {r} p h =
+    record {
+      inside = part-inside c i p h;
+      positions = λ f. rw (← drop-drop (r .start) (placeAt c i) c)
+          (sym (take-part (drop (placeAt c i) c) (r .start) (r .len) (blockSize c) (omega (arith, p .inside, long))) ∙ whole f);
+      before = λ f l. ap (λ n. placeAt c i + n) (p .before f l);
     }
   where
-    n : placeAt entryWidth c i + blockSize c - placeAt entryWidth c i ≡ blockSize c
-    n = omega arith
+    long : length (place c i) ≤ blockSize c
+    long = unfold place in rw length-take (omega arith)
 
-    p′ : BlockPart (take (blockSize c) (drop (placeAt entryWidth c i) c)) t a z r
-    p′ = rw n at p
-
-    long : length (take (blockSize c) (drop (placeAt entryWidth c i) c)) ≤ blockSize c
-    long = rw (length-take) (omega arith)
+    whole : formed (place c i) ≡ true → take (r .len) (drop (r .start) (take (blockSize c) (drop (placeAt c i) c))) ≡ map position (keep (isWanted t a z) (pairs (place c i)))
+    whole f = unfold place in p .positions f
 
 map-append : (f : ℕ → ℕ) (xs ys : List ℕ) → map f (xs ++ ys) ≡ map f xs ++ map f ys
 map-append f [] ys = refl
@@ -120,7 +93,7 @@ pub start-skip : (c : List ℕ) (f : ℕ → Bool) (i : ℕ) (is : List ℕ) →
 unfolding runStartOf
 start-skip c f i is e = go (keep f (pairs (place c i))) e
   where
-    go : (ks : List ℕ) → ks ≡ [] → elim ks [ [] ↦ runStartOf c f is | x ∷ xs ↦ placeAt entryWidth c i + wordsBefore f (place c i) 0 0 ] ≡ runStartOf c f is
+    go : (ks : List ℕ) → ks ≡ [] → elim ks [ [] ↦ runStartOf c f is | x ∷ xs ↦ placeAt c i + wordsBefore f (place c i) 0 0 ] ≡ runStartOf c f is
     go [] l = refl
     go (x ∷ xs) l = absurd (let z : suc (length xs) ≡ 0 = ap length l in omega arith)
 
@@ -135,11 +108,11 @@ run-hit c f i is h = go (keep f (pairs (place c i))) h
     go [] l = absurd (omega arith)
     go (x ∷ xs) l = refl
 
-start-hit : (c : List ℕ) (f : ℕ → Bool) (i : ℕ) (is : List ℕ) → 0 < length (keep f (pairs (place c i))) → runStartOf c f (i ∷ is) ≡ placeAt entryWidth c i + wordsBefore f (place c i) 0 0
+start-hit : (c : List ℕ) (f : ℕ → Bool) (i : ℕ) (is : List ℕ) → 0 < length (keep f (pairs (place c i))) → runStartOf c f (i ∷ is) ≡ placeAt c i + wordsBefore f (place c i) 0 0
 unfolding runStartOf
 start-hit c f i is h = go (keep f (pairs (place c i))) h
   where
-    go : (ks : List ℕ) → 0 < length ks → elim ks [ [] ↦ runStartOf c f is | x ∷ xs ↦ placeAt entryWidth c i + wordsBefore f (place c i) 0 0 ] ≡ placeAt entryWidth c i + wordsBefore f (place c i) 0 0
+    go : (ks : List ℕ) → 0 < length ks → elim ks [ [] ↦ runStartOf c f is | x ∷ xs ↦ placeAt c i + wordsBefore f (place c i) 0 0 ] ≡ placeAt c i + wordsBefore f (place c i) 0 0
     go [] l = absurd (omega arith)
     go (x ∷ xs) l = refl
 
@@ -157,7 +130,7 @@ seeking-start c t z s =
 
 -- no block is left
 pub seeking-end :
-    {c : List ℕ} {t z : ℕ} {s : Stretch} {p b : ℕ} → Seeking c t z s p b → (Ready c s → b ≡ 0) →
+    {c : List ℕ} {t z : ℕ} {s : Stretch} {p b : ℕ} → Seeking c t z s p b → b ≡ 0 →
     Sought c t z s (record { start = 0; len = 0; rest = record { place = p; blocks = 0; after = s .after } })
 seeking-end {c} {t} {z} {s} {p} {b} k e =
     record {
@@ -165,60 +138,56 @@ seeking-end {c} {t} {z} {s} {p} {b} k e =
       most = zero-le;
       fewer = λ l. absurd (let z : ⊥ = omega arith in z);
       spent = λ l. refl;
-      ready = λ r. rw (e r) at (k .ready r);
-      run = λ r. sym (unfold runOf around in (rw (e r) at (k .run r)));
-      starts = λ r. sym (unfold runStartOf around in (rw (e r) at (k .starts r)));
-      rest = λ r. rw (e r) at (k .rest r);
-      none = λ r l. (rw (e r) at (k .rest r)) ∙ none;
+      ready = λ r. rw e at (k .ready r);
+      run = λ r. sym (unfold runOf around in (rw e at (k .run r)));
+      starts = λ r. sym (unfold runStartOf around in (rw e at (k .starts r)));
+      rest = λ r. rw e at (k .rest r);
+      none = λ r l. (rw e at (k .rest r)) ∙ none;
     }
   where
     none : aheadOf c t z (record { place = p; blocks = 0; after = s .after }) ≡ []
     none = unfold around in postings-none c (isWanted t (s .after) z)
-
-pub seeking-unshaped :
-    (c : List ℕ) (t z : ℕ) (s : Stretch) → isShaped c ≡ false →
-    Sought c t z s (record { start = 0; len = 0; rest = record { place = s .place; blocks = 0; after = s .after } })
-seeking-unshaped c t z s e = seeking-end (seeking-start c t z s) (λ r. go (s .blocks) (r .shape))
-  where
-    go : (b : ℕ) → (0 < b → Shaped c) → b ≡ 0
-    go zero f = refl
-    go (suc b) f = absurd (true≢false (sym (shaped-is c (f (omega arith))) ∙ e))
-
-pub seeking-out :
-    {c : List ℕ} {t z : ℕ} {s : Stretch} {p b : ℕ} → Seeking c t z s p b → 0 < b → placeCount c ≤ p →
-    Sought c t z s (record { start = 0; len = 0; rest = record { place = p; blocks = 0; after = s .after } })
-seeking-out k h l = seeking-end k (λ r. absurd (let m = k .ready r .within h in let z : ⊥ = omega arith in z))
 
 map-nil : (f : ℕ → ℕ) (xs : List ℕ) → map f xs ≡ [] → xs ≡ []
 map-nil f [] e = refl
 map-nil f (x ∷ xs) e = absurd (let l : suc (length (map f xs)) ≡ 0 = ap length e in omega arith)
 
 -- the block at the place is read
-module _ {c : List ℕ} {t z : ℕ} {s : Stretch} {p b : ℕ} {x : Part} (k : Seeking c t z s p b) (shape : Shaped c) (h : 0 < b) (l : p < placeCount c) (y : PlacePart c p t (s .after) z x) where
+module _ {c : List ℕ} {t z : ℕ} {s : Stretch} {p b : ℕ} {x : Part} {k : Configuration} {q : ℕ} (g : Seeking c t z s p b) (o : ConfigurationOf c k) (h : 0 < b) (y : PlacePart c p t (s .after) z x) (e : q ≡ placeOn (k .places) p 1) where
   abbrev f : ℕ → Bool
   f = isWanted t (s .after) z
 
   abbrev behind : List ℕ
-  behind = around (placeCount c) ((p + 1) % placeCount c) (b - 1)
+  behind = around (placeCount c) q (b - 1)
 
-  step : around (placeCount c) p b ≡ p ∷ behind
-  step = places-step (placeCount c) p b h l
+  -- of a stretch that is ready, the next place is that of the circle
+  on : Ready c s → q ≡ (p + 1) % placeCount c
+  unfolding placeOn
+  on r =
+      let shape = g .ready r .shape h in
+      let n : k .places ≡ placeCount c = omega (arith, o .ofPlaces, shape .countHigh) in
+      e ∙ rw (n, ne-eqb (placeCount c) 0 (omega (arith, shape .countLow)))
+
+  step : Ready c s → around (placeCount c) p b ≡ p ∷ behind
+  step r = places-step (placeCount c) p b h (g .ready r .within h) ∙ rw (on r)
 
   live : Ready c s → Each (λ i. formed (place c i) ≡ true) (p ∷ behind)
-  live r = rw step at (k .ready r .live)
+  live r = rw (step r) at (g .ready r .live)
 
-  ready : Ready c s → Ready c (record { place = (p + 1) % placeCount c; blocks = b - 1; after = s .after })
-  ready r = record { shape = λ g. shape; within = λ g. mod-lt (p + 1) (omega (arith, shape)); live = live r .1 }
+  ready : Ready c s → Ready c (record { place = q; blocks = b - 1; after = s .after })
+  ready r =
+      let shape = g .ready r .shape h in
+      record { shape = λ l. shape; within = λ l. rw (on r) (mod-lt (p + 1) (omega (arith, shape .countLow))); live = live r .1 }
 
   -- it has nothing wanted
-  pub seeking-turn : x .len ≤ 0 → Seeking c t z s ((p + 1) % placeCount c) (b - 1)
-  seeking-turn q =
+  pub seeking-turn : x .len ≤ 0 → Seeking c t z s q (b - 1)
+  seeking-turn l =
       record {
-        most = omega (arith, k .most);
+        most = omega (arith, g .most);
         ready = ready;
-        run = λ r. k .run r ∙ rw step (run-skip c f p behind (none r));
-        starts = λ r. k .starts r ∙ rw step (start-skip c f p behind (none r));
-        rest = λ r. k .rest r ∙ rw step (postings-skip c f p behind (none r));
+        run = λ r. g .run r ∙ rw (step r) (run-skip c f p behind (none r));
+        starts = λ r. g .starts r ∙ rw (step r) (start-skip c f p behind (none r));
+        rest = λ r. g .rest r ∙ rw (step r) (postings-skip c f p behind (none r));
       }
     where
       zero-len : x .len ≡ 0
@@ -228,18 +197,18 @@ module _ {c : List ℕ} {t z : ℕ} {s : Stretch} {p b : ℕ} {x : Part} (k : Se
       none r = map-nil position (keep f (pairs (place c p))) (sym (rw zero-len at (y .positions (live r .0))))
 
   -- it has the run
-  pub seeking-hit : 0 < x .len → Sought c t z s (record { start = x .start; len = x .len; rest = record { place = (p + 1) % placeCount c; blocks = b - 1; after = s .after } })
-  seeking-hit q =
+  pub seeking-hit : 0 < x .len → Sought c t z s (record { start = x .start; len = x .len; rest = record { place = q; blocks = b - 1; after = s .after } })
+  seeking-hit l =
       record {
         inside = y .inside;
-        most = omega (arith, k .most);
-        fewer = λ g. omega (arith, k .most);
-        spent = λ g. absurd (let z : ⊥ = omega arith in z);
+        most = omega (arith, g .most);
+        fewer = λ j. omega (arith, g .most);
+        spent = λ j. absurd (let z : ⊥ = omega arith in z);
         ready = ready;
-        run = λ r. y .positions (live r .0) ∙ sym (k .run r ∙ rw step (run-hit c f p behind (some r)));
-        starts = λ r. y .before (live r .0) q ∙ sym (k .starts r ∙ rw step (start-hit c f p behind (some r)));
-        rest = λ r. k .rest r ∙ rw step (postings-cons c f p behind ∙ rw (y .positions (live r .0)));
-        none = λ r g. absurd (let z : ⊥ = omega arith in z);
+        run = λ r. y .positions (live r .0) ∙ sym (g .run r ∙ rw (step r) (run-hit c f p behind (some r)));
+        starts = λ r. y .before (live r .0) l ∙ sym (g .starts r ∙ rw (step r) (start-hit c f p behind (some r)));
+        rest = λ r. g .rest r ∙ rw (step r) (postings-cons c f p behind ∙ rw (y .positions (live r .0)));
+        none = λ r j. absurd (let z : ⊥ = omega arith in z);
       }
     where
       some : Ready c s → 0 < length (keep f (pairs (place c p)))

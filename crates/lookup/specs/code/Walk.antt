@@ -1,16 +1,16 @@
 -- The blocks that a lookup reads, one run of wanted positions after another.
 use Prim.Native.Nat.{ℕ, _+_, _≤_, _<_}
 use mathlib.Core.Path.{_≡_}
-use mathlib.Core.Bool.{Bool, true, false, cond, _&&_}
+use mathlib.Core.Bool.{Bool, true, cond}
 use mathlib.Core.List.{List, [], _∷_, _++_, map}
 use lib.ListN.{length, take, drop}
-use lib.Dec.{ltb, leb, eqb}
+use lib.Dec.{eqb}
 use Rattle.pair.specs.Rank.{position}
 use Rattle.pair.specs.Rising.{Each, keep}
 use Rattle.block.specs.Block.{pairs, wordsBefore, formed}
 use Rattle.block.specs.code.Wanted.{isWanted}
 use Rattle.block.specs.declared.wanted.Part.{Part}
-use Rattle.card.specs.Layout.{blockSize, placeCount, entryWidth, cardLength, placeAt, place, around, pairsAt}
+use Rattle.card.specs.Layout.{placeCount, placeAt, place, around, pairsAt}
 use Rattle.card.specs.code.Scan.{Shaped}
 use Rattle.lookup.specs.declared.walk.Stretch.{Stretch}
 use Rattle.lookup.specs.declared.walk.Walk.{Walk}
@@ -19,20 +19,13 @@ use Rattle.lookup.specs.declared.walk.WalkStart.{WalkStart}
 use Rattle.lookup.specs.declared.walk.WalkRun.{WalkRun}
 use Rattle.lookup.specs.Found.{found, questionNumber, blocksRead}
 
--- the test of a card's shape
-unfoldable pub isShaped : List ℕ → Bool
-isShaped c =
-    cond (ltb (length c) 8) false
-    (cond ((leb (blockSize c) 1024 && leb 2 (placeCount c)) && leb (placeCount c) 1024)
-    (eqb (length c) (cardLength entryWidth (blockSize c) (placeCount c))) false)
-
 -- of a live block, the part has the wanted positions, and starts where the first of them stands
 pub record PlacePart (c : List ℕ) (i t a z : ℕ) (r : Part) : Type 0 where
   pub inside : r .start + r .len ≤ length c
   pub positions : formed (place c i) ≡ true → take (r .len) (drop (r .start) c) ≡ map position (keep (isWanted t a z) (pairs (place c i)))
   pub before :
       formed (place c i) ≡ true → 0 < r .len →
-      r .start ≡ placeAt entryWidth c i + wordsBefore (isWanted t a z) (place c i) 0 0
+      r .start ≡ placeAt c i + wordsBefore (isWanted t a z) (place c i) 0 0
 
 -- the positions of the pairs that pass the test, in the blocks at the places
 unfoldable pub postings : List ℕ → (ℕ → Bool) → List ℕ → List ℕ
@@ -49,7 +42,7 @@ runStartOf c f [] = 0
 runStartOf c f (i ∷ is) =
     elim (keep f (pairs (place c i))) [
       | [] ↦ runStartOf c f is
-      | x ∷ xs ↦ placeAt entryWidth c i + wordsBefore f (place c i) 0 0
+      | x ∷ xs ↦ placeAt c i + wordsBefore f (place c i) 0 0
     ]
 
 abbrev pub placesOf : List ℕ → Stretch → List ℕ
@@ -113,7 +106,7 @@ pub record ReadyWalk (c : List ℕ) (w : Walk) : Type 0 where
   pub old : Ready c (w .old)
 
 -- a walk at its start: the question's number, and ahead of it what is found; nothing, and no block, where the question is refused
-pub record Started (c : List ℕ) (t a z : ℕ) (r : WalkStart) : Type 0 where
+pub record WalkStarted (c : List ℕ) (t a z : ℕ) (r : WalkStart) : Type 0 where
   pub number : r .number ≡ questionNumber c t a z
   pub ready : ReadyWalk c (r .walk)
   pub wanted : ahead c (r .walk) ≡ cond (eqb (questionNumber c t a z) 0) (found c t a z) []

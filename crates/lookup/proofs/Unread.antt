@@ -1,4 +1,4 @@
--- The defined span of a segment: blocks outside it hold nothing wanted, so that what is wanted of the segment is wanted of the span.
+-- The blocks of a segment that a lookup does not read hold nothing wanted, so that what is wanted of the segment is wanted of the defined span.
 use Prim.Native.Nat.{ℕ, zero, suc, _+_, _-_, _%_, _≤_, _<_, zero-le}
 use native.Mathlib.Nat.{mod-lt}
 use native.Mathlib.Omega.{arith}
@@ -20,10 +20,13 @@ use Rattle.pair.proofs.Sets.{rising-Each}
 use Rattle.pair.proofs.Tests.{and-left, and-right, or-intro}
 use Rattle.block.specs.Block.{pairs, wordsBefore, formed}
 use Rattle.block.proofs.Reading.{formed-some}
-use Rattle.card.specs.Layout.{entryWidth, placeCount, placeAt, firstPair, place, around, pairsAt}
+use Rattle.card.specs.Layout.{placeCount, placeAt, firstPair, place, around, pairsAt}
 use Rattle.card.specs.Sound.{blocksSound}
+use Rattle.card.specs.code.Configuration.{placeOn}
+use Rattle.card.specs.declared.layout.Configuration.{Configuration}
 use Rattle.card.proofs.Circle.{around-drop, around-mod, length-around}
 use Rattle.card.proofs.Live.{pairsAt-append}
+use Rattle.card.proofs.Ordered.{place-on}
 use Rattle.lookup.specs.Found.{mappedTo, span}
 use Rattle.lookup.specs.code.Segment.{Segment, spanned}
 use Rattle.lookup.specs.code.Walk.{runOf, runStartOf, placesOf, Ready}
@@ -141,7 +144,7 @@ start-behind c f [] js e = start-none c f js e
 start-behind c f (i ∷ is) js e = go (keep f (pairs (place c i))) (start-behind c f is js e)
   where
     here : ℕ
-    here = placeAt entryWidth c i + wordsBefore f (place c i) 0 0
+    here = placeAt c i + wordsBefore f (place c i) 0 0
 
     go :
         (ks : List ℕ) → runStartOf c f (is ++ js) ≡ runStartOf c f is →
@@ -216,7 +219,7 @@ sound-live c (i ∷ is) s =
     (and-left (formed (place c i)) (eqb (firstPair c i) (getD (pairs (place c i)) 0 0)) whole, sound-live c is (and-right (formed (place c i) && eqb (firstPair c i) (getD (pairs (place c i)) 0 0)) (blocksSound c is) s))
 
 -- the span of a segment
-module _ (c : List ℕ) (start len t a z after : ℕ) (g : Segment c start len) (h : a ≤ z) where
+module _ (c : List ℕ) (k : Configuration) (start len t a z after : ℕ) (g : Segment c k start len) (h : a ≤ z) where
   abbrev is : List ℕ
   is = around (placeCount c) start len
 
@@ -231,9 +234,6 @@ module _ (c : List ℕ) (start len t a z after : ℕ) (g : Segment c start len) 
 
   most : read ≤ len
   most = rw length-around at (mapped-most c (rank t z) is)
-
-  pub span-most : skipped ≤ read × (read ≤ len)
-  span-most = (order, most)
 
   places : placesOf c (spanned c start len t a z after) ≡ take (read - skipped) (drop skipped is)
   unfolding spanned span
@@ -251,15 +251,16 @@ module _ (c : List ℕ) (start len t a z after : ℕ) (g : Segment c start len) 
   pub span-ready : Ready c (spanned c start len t a z after)
   span-ready =
       record {
-        shape = λ q. g .shape;
-        within = λ q. unfold spanned in mod-lt (start + skipped) (omega (arith, g .shape .countLow));
+        shape = λ q. g .ordered .shaped;
+        within = λ q. unfold spanned in mod-lt (start + skipped) (omega (arith, g .ordered .shaped .countLow));
         live = rw places (Each-take (λ i. formed (place c i) ≡ true) (read - skipped) (drop skipped is) (Each-drop (λ i. formed (place c i) ≡ true) skipped is (sound-live c is (g .sound))));
       }
 
--- what the code answers is the span
-pub spanned-is :
-    (c : List ℕ) (start len t a z after : ℕ) {skip read : ℕ} → skip ≡ mappedTo c (rank t a) (around (placeCount c) start len) - 1 →
-    read ≡ mappedTo c (rank t z) (around (placeCount c) start len) →
-    record { place = (start + skip) % placeCount c; blocks = read - skip; after = after } ≡ spanned c start len t a z after
-unfolding spanned span
-spanned-is c start len t a z after e f = rw (e, f)
+-- what the code answers, by two searches of the map, is the span
+module _ {c : List ℕ} {k : Configuration} {start len i m j skip read : ℕ} (t a z : ℕ) (g : Segment c k start len) (h : a ≤ z) (ei : i ≡ rank t a) (em : m ≡ mappedTo c i (around (placeCount c) start len)) (es : skip ≡ m - 1) (ej : j ≡ rank t z) (er : read ≡ mappedTo c j (around (placeCount c) start len)) where
+  pub skips-at-most : skip ≤ read
+  skips-at-most = rw (es, em, ei, er, ej) (order c k start len t a z 0 g h)
+
+  pub spanned-is : {p : ℕ} (after : ℕ) → p ≡ placeOn (k .places) start skip → record { place = p; blocks = read - skip; after = after } ≡ spanned c start len t a z after
+  unfolding spanned span
+  spanned-is after q = rw (q, place-on (g .ordered) start skip, es, em, ei, er, ej)
