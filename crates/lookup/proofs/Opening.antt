@@ -1,11 +1,11 @@
 -- The walk that a lookup makes: what is ahead of it is what is found, and its first run is the run view's.
-use Prim.Native.Nat.{ℕ, zero, suc, _+_, _*_, _-_, _≤_, _<_}
+use Prim.Native.Nat.{ℕ, zero, suc, _+_, _*_, _≤_, _<_}
 use native.Mathlib.Omega.{arith}
 use mathlib.Core.Path.{_≡_, refl, sym, ap, _∙_}
 use mathlib.Core.Bool.{Bool, true, false, _&&_, and-false}
 use mathlib.Core.List.{List, [], _∷_, _++_, map, map-append}
 use borrow.Author.Tests.{leb-true, lt-ltb, lt-leb, eq-eqb}
-use lib.ListN.{length, getD, length-append, length-map, length-take}
+use lib.ListN.{length, length-append, length-map, length-take}
 use lib.Dec.{ltb, leb}
 use Rattle.pair.specs.Rank.{wordLimit, rank, position, Words}
 use Rattle.pair.specs.Rising.{keep, above, within}
@@ -23,7 +23,7 @@ use Rattle.card.proofs.Live.{place-words}
 use Rattle.card.proofs.Ordered.{ordered-sound, around-on}
 use Rattle.lookup.specs.declared.walk.Stretch.{Stretch}
 use Rattle.lookup.specs.declared.walk.Walk.{Walk}
-use Rattle.lookup.specs.Found.{found, span, blocksRead, questionNumber}
+use Rattle.lookup.specs.Found.{found, blocksRead, questionNumber}
 use Rattle.lookup.specs.Views.{runAt, run, runStartAt, runStart}
 use Rattle.lookup.specs.code.Segment.{Segment, spanned, LiveAfter, LookupWalk}
 use Rattle.lookup.specs.code.Walk.{postings, runOf, runStartOf, placesOf, orElse, orElseAt, ahead, nextRun, nextStart}

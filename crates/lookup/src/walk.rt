@@ -1,5 +1,4 @@
 // A walk over the blocks that a lookup reads: it finds one run of wanted positions after another, each a part of the card.
-ghost use mathlib.Core.Path.{_≡_};
 ghost use Rattle.lookup.specs.code.Walk.{PlacePart, Sought, WalkStarted, Next};
 use crate::map::opened;
 use crate::question_number;

@@ -1,9 +1,8 @@
 -- `lookup::map::mapped_to` meets its contract: a search by halving of a map that rises. The invariant, Searching: the count that is sought lies from low to high.
 use Prim.Native.Nat.{_-_}
 use native.Mathlib.Omega.{arith}
-use mathlib.Core.Path.{_≡_, ap, _∙_}
+use mathlib.Core.Path.{ap, _∙_}
 use Rattle.card.specs.Layout.{firstPair}
-use Rattle.card.specs.code.Configuration.{placeOn}
 use Rattle.lookup.proofs.Mapping.{Searching, search-start, search-up, search-down, search-end}
 use borrow.Author.Needs.{needs}
 use Rattle.lookup.proofs.map.mapped_to.Statement.{statement}
