@@ -26,7 +26,7 @@ use Rattle.lookup.specs.declared.walk.Walk.{Walk}
 use Rattle.lookup.specs.Found.{found, blocksRead, questionNumber}
 use Rattle.lookup.specs.Views.{runAt, run, runStartAt, runStart}
 use Rattle.lookup.specs.code.Segment.{Segment, spanned, LiveAfter, LookupWalk}
-use Rattle.lookup.specs.code.Walk.{postings, runOf, runStartOf, placesOf, orElse, orElseAt, ahead, nextRun, nextStart}
+use Rattle.lookup.specs.code.Walk.{postings, atFirst, runOf, runStartOf, placesOf, ahead, nextRun, nextStart}
 use Rattle.lookup.proofs.Answers.{Asked, asked}
 use Rattle.lookup.proofs.Unread.{Same, span-same, span-ready}
 
@@ -56,40 +56,33 @@ module _ (c : List ℕ) (k a z : ℕ) (f : ℕ → Bool) (h : (x : ℕ) → f x 
       keep-same f (λ x. (leb a x && leb x z) && ltb k x) (λ x. h x ∙ turned (ltb k x) (leb a x) (leb x z)) xs
       ∙ sym (keep-keep (ltb k) (λ x. leb a x && leb x z) xs)
 
-  pub within-above : (xs : List ℕ) → keep f xs ≡ within a z (above k xs)
+  within-above : (xs : List ℕ) → keep f xs ≡ within a z (above k xs)
   unfolding above within
   within-above xs = keep-same f (λ x. ltb k x && (leb a x && leb x z)) h xs ∙ sym (keep-keep (λ x. leb a x && leb x z) (ltb k) xs)
 
-  pub run-at : (is rest : List ℕ) → runAt c k a z is rest ≡ orElse (runOf c f is) rest
-  unfolding runAt runOf orElse
-  run-at [] rest = refl
-  run-at (i ∷ is) rest = go (above k (within a z (pairs (place c i)))) (keep f (pairs (place c i))) (above-within (pairs (place c i))) (run-at is rest)
+  run-at : (is none : List ℕ) → runAt c k a z is none ≡ runOf c f is none
+  unfolding runAt atFirst
+  run-at [] none = refl
+  run-at (i ∷ is) none = rw (← above-within (pairs (place c i)), runAt) (go (keep f (pairs (place c i))) refl (run-at is none))
     where
       go :
-          (ks ls : List ℕ) → ls ≡ ks → runAt c k a z is rest ≡ orElse (runOf c f is) rest →
-          elim ks [ [] ↦ runAt c k a z is rest | x ∷ xs ↦ map position (x ∷ xs) ]
-          ≡ orElse (elim ls [ [] ↦ runOf c f is | x ∷ xs ↦ map position (x ∷ xs) ]) rest
-      go [] [] e ih = ih
-      go (x ∷ xs) (y ∷ ys) e ih = ap (map position) (sym e)
-      go [] (y ∷ ys) e ih = absurd (let z : _≡_ {A = ℕ} 0 1 = cc in omega arith)
-      go (x ∷ xs) [] e ih = absurd (let z : _≡_ {A = ℕ} 0 1 = cc in omega arith)
+          (ks : List ℕ) → keep f (pairs (place c i)) ≡ ks → runAt c k a z is none ≡ runOf c f is none →
+          _≡_ {A = List ℕ} (elim ks [ [] ↦ runAt c k a z is none | x ∷ xs ↦ map position (x ∷ xs) ])
+          (elim ks [ [] ↦ runOf c f is none | x ∷ xs ↦ map position (keep f (pairs (place c i))) ])
+      go [] e ih = ih
+      go (x ∷ xs) e ih = ap (map position) (sym e)
 
-  pub start-at : (is : List ℕ) (rest : ℕ) → runStartAt c k a z is rest ≡ orElseAt (runOf c f is) (runStartOf c f is) rest
-  unfolding runStartAt runOf runStartOf orElseAt
-  start-at [] rest = refl
-  start-at (i ∷ is) rest = go (above k (within a z (pairs (place c i)))) (keep f (pairs (place c i))) (above-within (pairs (place c i))) (start-at is rest)
+  start-at : (is : List ℕ) (none : ℕ) → runStartAt c k a z is none ≡ runStartOf c f is none
+  unfolding runStartAt atFirst
+  start-at [] none = refl
+  start-at (i ∷ is) none = rw (← above-within (pairs (place c i)), runStartAt) (go (keep f (pairs (place c i))) (start-at is none))
     where
-      g : ℕ → Bool
-      g y = ltb k y && leb a y && leb y z
-
       go :
-          (ks ls : List ℕ) → ls ≡ ks → runStartAt c k a z is rest ≡ orElseAt (runOf c f is) (runStartOf c f is) rest →
-          elim ks [ [] ↦ runStartAt c k a z is rest | x ∷ xs ↦ placeAt c i + wordsBefore (λ y. ltb k y && leb a y && leb y z) (place c i) 0 0 ]
-          ≡ orElseAt (elim ls [ [] ↦ runOf c f is | x ∷ xs ↦ map position (x ∷ xs) ]) (elim ls [ [] ↦ runStartOf c f is | x ∷ xs ↦ placeAt c i + wordsBefore f (place c i) 0 0 ]) rest
-      go [] [] e ih = ih
-      go (x ∷ xs) (y ∷ ys) e ih = ap (λ n. placeAt c i + n) (words-same (λ y. ltb k y && leb a y && leb y z) f (λ y. sym (h y ∙ joined (ltb k y) (leb a y) (leb y z))) (place c i) 0 0)
-      go [] (y ∷ ys) e ih = absurd (let z : _≡_ {A = ℕ} 0 1 = cc in omega arith)
-      go (x ∷ xs) [] e ih = absurd (let z : _≡_ {A = ℕ} 0 1 = cc in omega arith)
+          (ks : List ℕ) → runStartAt c k a z is none ≡ runStartOf c f is none →
+          _≡_ {A = ℕ} (elim ks [ [] ↦ runStartAt c k a z is none | x ∷ xs ↦ placeAt c i + wordsBefore (λ y. ltb k y && leb a y && leb y z) (place c i) 0 0 ])
+          (elim ks [ [] ↦ runStartOf c f is none | x ∷ xs ↦ placeAt c i + wordsBefore f (place c i) 0 0 ])
+      go [] ih = ih
+      go (x ∷ xs) ih = ap (λ n. placeAt c i + n) (words-same (λ y. ltb k y && leb a y && leb y z) f (λ y. sym (h y ∙ joined (ltb k y) (leb a y) (leb y z))) (place c i) 0 0)
 
 -- what is found is short: every block has at most so many pairs
 length-pairsAt : (c is : List ℕ) → Words c → blockSize c ≤ blockSizeMost → length (pairsAt c is) ≤ blockSizeMost * length is
@@ -100,7 +93,7 @@ length-pairsAt c (i ∷ is) w h =
     let size : length (place c i) ≤ blockSize c = unfold place in rw length-take (omega arith) in
     rw length-append (omega (arith, length-pairsAt c is w h))
 
-pub few-found : (c : List ℕ) (t a z : ℕ) → Words c → Facts c → length (found c t a z) < wordLimit
+few-found : (c : List ℕ) (t a z : ℕ) → Words c → Facts c → length (found c t a z) < wordLimit
 unfolding found live within above
 few-found c t a z w g =
     rw (length-map)
@@ -124,31 +117,6 @@ module _ {t a z b r : ℕ} (l : LiveAfter t a z b r) where
 
   not-above : (x : ℕ) → rank t z < x → isWanted t r z x ≡ false
   not-above x h = l .same x ∙ rw (lt-leb x (rank t z) h, and-false (leb (rank t a) x)) (and-false (ltb b x))
-
--- where there is no run, it starts at 0
-no-start : (c : List ℕ) (f : ℕ → Bool) (is : List ℕ) → runOf c f is ≡ [] → runStartOf c f is ≡ 0
-unfolding runOf runStartOf
-no-start c f [] e = refl
-no-start c f (i ∷ is) e = go (keep f (pairs (place c i))) e (no-start c f is)
-  where
-    here : ℕ
-    here = placeAt c i + wordsBefore f (place c i) 0 0
-
-    go :
-        (ks : List ℕ) → _≡_ {A = List ℕ} (elim ks [ [] ↦ runOf c f is | x ∷ xs ↦ map position (x ∷ xs) ]) [] → (runOf c f is ≡ [] → runStartOf c f is ≡ 0) →
-        _≡_ {A = ℕ} (elim ks [ [] ↦ runStartOf c f is | x ∷ xs ↦ here ]) 0
-    go [] e ih = ih e
-    go (x ∷ xs) e ih = absurd (let z : suc (length (map position xs)) ≡ 0 = ap length e in omega arith)
-
-at-nil : (xs : List ℕ) (i : ℕ) → (xs ≡ [] → i ≡ 0) → orElseAt xs i 0 ≡ i
-unfolding orElseAt
-at-nil [] i h = sym (h refl)
-at-nil (x ∷ xs) i h = refl
-
-or-nil : (xs : List ℕ) → orElse xs [] ≡ xs
-unfolding orElse
-or-nil [] = refl
-or-nil (x ∷ xs) = refl
 
 -- The segments as the code names them, by the configuration in hand.
 module _ {c : List ℕ} {k : Configuration} (g : Facts c) (i : ConfigurationOf c k) where
@@ -211,19 +179,20 @@ module _ (c : List ℕ) (k : Configuration) (t a z r q : ℕ) (w : Words c) (e :
   is-run : nextRun c walk ≡ run c t a z
   unfolding run spanned
   is-run =
+      let F = isWanted t r z in
+      let G = isWanted t q z in
       rw (eq-eqb (questionNumber c t a z) 0 e, ← new .run, ← old .run)
-      (sym (run-at c 0 (rank t a) (rank t z) (isWanted t r z) (l .same) (newPlaces c) _
-      ∙ ap (orElse (runOf c (isWanted t r z) (newPlaces c))) (run-at c (boundary c) (rank t a) (rank t z) (isWanted t q z) (m .same) (oldPlaces c) [] ∙ or-nil (runOf c (isWanted t q z) (oldPlaces c)))))
+      (sym (run-at c 0 (rank t a) (rank t z) F (l .same) (newPlaces c) _
+      ∙ ap (runOf c F (newPlaces c)) (run-at c (boundary c) (rank t a) (rank t z) G (m .same) (oldPlaces c) [])))
 
   is-start : nextStart c walk ≡ runStart c t a z
   unfolding runStart spanned
   is-start =
       let F = isWanted t r z in
       let G = isWanted t q z in
-      rw (eq-eqb (questionNumber c t a z) 0 e, ← new .run, ← new .start, ← old .start)
-      (sym (start-at c 0 (rank t a) (rank t z) F (l .same) (newPlaces c) (runStartAt c (boundary c) (rank t a) (rank t z) (oldPlaces c) 0)
-      ∙ ap (orElseAt (runOf c F (newPlaces c)) (runStartOf c F (newPlaces c)))
-      (start-at c (boundary c) (rank t a) (rank t z) G (m .same) (oldPlaces c) 0 ∙ at-nil (runOf c G (oldPlaces c)) (runStartOf c G (oldPlaces c)) (no-start c G (oldPlaces c)))))
+      rw (eq-eqb (questionNumber c t a z) 0 e, ← new .start, ← old .start)
+      (sym (start-at c 0 (rank t a) (rank t z) F (l .same) (newPlaces c) _
+      ∙ ap (runStartOf c F (newPlaces c)) (start-at c (boundary c) (rank t a) (rank t z) G (m .same) (oldPlaces c) 0)))
 
   pub opened-walk : LookupWalk c t a z walk
   opened-walk =

@@ -29,55 +29,41 @@ use Rattle.card.proofs.Live.{pairsAt-append}
 use Rattle.card.proofs.Ordered.{place-on}
 use Rattle.lookup.specs.Found.{mappedTo, span}
 use Rattle.lookup.specs.code.Segment.{Segment, spanned}
-use Rattle.lookup.specs.code.Walk.{runOf, runStartOf, placesOf, Ready}
+use Rattle.lookup.specs.code.Walk.{atFirst, runOf, runStartOf, placesOf, Ready}
 use Rattle.lookup.proofs.Span.{First, first, mapped-none, mapped-leading}
-use Rattle.lookup.proofs.Walking.{run-skip, start-skip}
+use Rattle.lookup.proofs.Walking.{first-append, first-none}
 
 -- nothing at the place passes the test
 abbrev pub Empty : List ℕ → (ℕ → Bool) → ℕ → Type 0
 Empty c f i = keep f (pairs (place c i)) ≡ []
 
 -- places whose pairs lie above z
-none-above :
-    (c : List ℕ) (f : ℕ → Bool) (z : ℕ) → ((x : ℕ) → z < x → f x ≡ false) → (is : List ℕ) (j : ℕ) → blocksSound c is ≡ true →
-    risingFrom j (pairsAt c is) ≡ true → z ≤ j → Each (Empty c f) is
-none-above c f z h [] j s r l = tt
-none-above c f z h (i ∷ is) j s r l =
-    let d = first c j i is s r in (
-      keep-none f (pairs (place c i)) (Each-imply (λ x. j < x) (λ x. f x ≡ false) (λ x q. h x (omega arith)) (pairs (place c i)) (rising-Each (pairs (place c i)) j (d .rises))),
-      none-above c f z h is (last j (pairs (place c i))) (d .sound) (d .behind) (omega (arith, rising-last (pairs (place c i)) j (d .rises))),
-    )
+module _ (c : List ℕ) (f : ℕ → Bool) (z : ℕ) (h : (x : ℕ) → z < x → f x ≡ false) where
+  none-here : {j i : ℕ} {is : List ℕ} → First c j i is → z < firstPair c i → Empty c f i
+  none-here {i = i} d l =
+      keep-none f (pairs (place c i)) (Each-imply (λ x. firstPair c i - 1 < x) (λ x. f x ≡ false) (λ x q. h x (omega arith)) (pairs (place c i)) (rising-Each (pairs (place c i)) (firstPair c i - 1) (d .from)))
 
-head-rising : (ks : List ℕ) (j : ℕ) → 0 < length ks → risingFrom j ks ≡ true → risingFrom (getD ks 0 0 - 1) ks ≡ true
-head-rising [] j l r = absurd (omega arith)
-head-rising (k ∷ ks) j l r = rising-cons k ks (k - 1) (omega (arith, rising-head k ks j r)) (rising-tail k ks j r)
+  none-above : (is : List ℕ) (j : ℕ) → blocksSound c is ≡ true → risingFrom j (pairsAt c is) ≡ true → z ≤ j → Each (Empty c f) is
+  none-above [] j s r l = tt
+  none-above (i ∷ is) j s r l =
+      let d = first c j i is s r in (
+        none-here d (omega (arith, d .low)),
+        none-above is (last j (pairs (place c i))) (d .sound) (d .behind) (omega (arith, rising-last (pairs (place c i)) j (d .rises))),
+      )
 
--- the first pair of some places is the first place's map pair
-first-head : (c : List ℕ) (i : ℕ) (is : List ℕ) → blocksSound c (i ∷ is) ≡ true → (0 < length (pairsAt c (i ∷ is))) × (getD (pairsAt c (i ∷ is)) 0 0 ≡ firstPair c i)
-unfolding blocksSound pairsAt
-first-head c i is s =
-    let ks = pairs (place c i) in
-    let whole : (formed (place c i) && eqb (firstPair c i) (getD ks 0 0)) ≡ true = and-left _ (blocksSound c is) s in
-    let some : 0 < length ks = formed-some (place c i) (and-left _ (eqb (firstPair c i) (getD ks 0 0)) whole) in
-    let entry : firstPair c i ≡ getD ks 0 0 = eqb-true _ _ (and-right (formed (place c i)) _ whole) in
-    (rw length-append (omega arith), List·getD-append ks (pairsAt c is) 0 0 some ∙ sym entry)
-
--- behind the last place with a map pair of at most z
-none-behind :
-    (c : List ℕ) (f : ℕ → Bool) (z : ℕ) → ((x : ℕ) → z < x → f x ≡ false) → (is : List ℕ) (j : ℕ) → blocksSound c is ≡ true →
-    risingFrom j (pairsAt c is) ≡ true → Each (Empty c f) (drop (mappedTo c z is) is)
-none-behind c f z h [] j s r = unfold mappedTo in tt
-none-behind c f z h (i ∷ is) j s r =
-    let d = first c j i is s r in
-    rw (mapped-leading c z j i is s r)
-    (go (leb (firstPair c i) z) refl (none-behind c f z h is (last j (pairs (place c i))) (d .sound) (d .behind)))
-  where
-    go : (b : Bool) → leb (firstPair c i) z ≡ b → Each (Empty c f) (drop (mappedTo c z is) is) → Each (Empty c f) (drop (cond b (suc (mappedTo c z is)) 0) (i ∷ is))
-    go true e ih = ih
-    go false e ih =
-        let l : z < firstPair c i = leb-false (firstPair c i) z e in
-        let hd = first-head c i is s in
-        none-above c f z h (i ∷ is) (getD (pairsAt c (i ∷ is)) 0 0 - 1) s (head-rising (pairsAt c (i ∷ is)) j (hd .0) r) (omega (arith, hd .1))
+  -- behind the last place with a map pair of at most z
+  none-behind : (is : List ℕ) (j : ℕ) → blocksSound c is ≡ true → risingFrom j (pairsAt c is) ≡ true → Each (Empty c f) (drop (mappedTo c z is) is)
+  none-behind [] j s r = unfold mappedTo in tt
+  none-behind (i ∷ is) j s r =
+      let d = first c j i is s r in
+      rw (mapped-leading c z j i is s r)
+      (go d (leb (firstPair c i) z) refl (none-behind is (last j (pairs (place c i))) (d .sound) (d .behind)))
+    where
+      go : First c j i is → (b : Bool) → leb (firstPair c i) z ≡ b → Each (Empty c f) (drop (mappedTo c z is) is) → Each (Empty c f) (drop (cond b (suc (mappedTo c z is)) 0) (i ∷ is))
+      go d true e ih = ih
+      go d false e ih =
+          let l : z < firstPair c i = leb-false (firstPair c i) z e in
+          (none-here d l, none-above is (last j (pairs (place c i))) (d .sound) (d .behind) (omega (arith, d .high)))
 
 -- before the last place with a map pair of at most a
 none-before :
@@ -110,48 +96,6 @@ none-before c f a h (i ∷ is) j s r =
         rw e
         (keep-none f (pairs (place c i)) (Each-imply (λ x. x ≤ top) (λ x. f x ≡ false) (λ x q. h x (omega arith)) (pairs (place c i)) most), ih)
 
--- empty places are passed over, before and behind
-run-before : (c : List ℕ) (f : ℕ → Bool) (is js : List ℕ) → Each (Empty c f) is → runOf c f (is ++ js) ≡ runOf c f js
-run-before c f [] js e = refl
-run-before c f (i ∷ is) js e = run-skip c f i (is ++ js) (e .0) ∙ run-before c f is js (e .1)
-
-start-before : (c : List ℕ) (f : ℕ → Bool) (is js : List ℕ) → Each (Empty c f) is → runStartOf c f (is ++ js) ≡ runStartOf c f js
-start-before c f [] js e = refl
-start-before c f (i ∷ is) js e = start-skip c f i (is ++ js) (e .0) ∙ start-before c f is js (e .1)
-
-run-none : (c : List ℕ) (f : ℕ → Bool) (is : List ℕ) → Each (Empty c f) is → runOf c f is ≡ []
-run-none c f [] e = unfold runOf in refl
-run-none c f (i ∷ is) e = run-skip c f i is (e .0) ∙ run-none c f is (e .1)
-
-start-none : (c : List ℕ) (f : ℕ → Bool) (is : List ℕ) → Each (Empty c f) is → runStartOf c f is ≡ 0
-start-none c f [] e = unfold runStartOf in refl
-start-none c f (i ∷ is) e = start-skip c f i is (e .0) ∙ start-none c f is (e .1)
-
-run-behind : (c : List ℕ) (f : ℕ → Bool) (is js : List ℕ) → Each (Empty c f) js → runOf c f (is ++ js) ≡ runOf c f is
-unfolding runOf
-run-behind c f [] js e = run-none c f js e
-run-behind c f (i ∷ is) js e = go (keep f (pairs (place c i))) (run-behind c f is js e)
-  where
-    go :
-        (ks : List ℕ) → runOf c f (is ++ js) ≡ runOf c f is →
-        _≡_ {A = List ℕ} (elim ks [ [] ↦ runOf c f (is ++ js) | x ∷ xs ↦ map position (x ∷ xs) ]) (elim ks [ [] ↦ runOf c f is | x ∷ xs ↦ map position (x ∷ xs) ])
-    go [] ih = ih
-    go (x ∷ xs) ih = refl
-
-start-behind : (c : List ℕ) (f : ℕ → Bool) (is js : List ℕ) → Each (Empty c f) js → runStartOf c f (is ++ js) ≡ runStartOf c f is
-unfolding runStartOf
-start-behind c f [] js e = start-none c f js e
-start-behind c f (i ∷ is) js e = go (keep f (pairs (place c i))) (start-behind c f is js e)
-  where
-    here : ℕ
-    here = placeAt c i + wordsBefore f (place c i) 0 0
-
-    go :
-        (ks : List ℕ) → runStartOf c f (is ++ js) ≡ runStartOf c f is →
-        _≡_ {A = ℕ} (elim ks [ [] ↦ runStartOf c f (is ++ js) | x ∷ xs ↦ here ]) (elim ks [ [] ↦ runStartOf c f is | x ∷ xs ↦ here ])
-    go [] ih = ih
-    go (x ∷ xs) ih = refl
-
 kept-none : (c : List ℕ) (f : ℕ → Bool) (is : List ℕ) → Each (Empty c f) is → keep f (pairsAt c is) ≡ []
 unfolding pairsAt keep
 kept-none c f [] e = refl
@@ -160,8 +104,8 @@ kept-none c f (i ∷ is) e = keep-append f (pairs (place c i)) (pairsAt c is) �
 -- the places is, with js in the middle, the others being empty
 pub record Same (c : List ℕ) (f : ℕ → Bool) (is js : List ℕ) : Type 0 where
   pub kept : keep f (pairsAt c is) ≡ keep f (pairsAt c js)
-  pub run : runOf c f is ≡ runOf c f js
-  pub start : runStartOf c f is ≡ runStartOf c f js
+  pub run : (none : List ℕ) → runOf c f is none ≡ runOf c f js none
+  pub start : (none : ℕ) → runStartOf c f is none ≡ runStartOf c f js none
 
 same-middle : (c : List ℕ) (f : ℕ → Bool) (xs js ys : List ℕ) → Each (Empty c f) xs → Each (Empty c f) ys → Same c f (xs ++ (js ++ ys)) js
 same-middle c f xs js ys e g =
@@ -169,9 +113,14 @@ same-middle c f xs js ys e g =
       kept =
           rw (pairsAt-append c xs (js ++ ys), pairsAt-append c js ys, keep-append f (pairsAt c xs) (pairsAt c js ++ pairsAt c ys), keep-append f (pairsAt c js) (pairsAt c ys), kept-none c f xs e, kept-none c f ys g)
           (append-nil (keep f (pairsAt c js)));
-      run = run-before c f xs (js ++ ys) e ∙ run-behind c f js ys g;
-      start = start-before c f xs (js ++ ys) e ∙ start-behind c f js ys g;
+      run = middle _;
+      start = middle _;
     }
+  where
+    middle : {A : Type 0} (has : ℕ → A) (none : A) → atFirst c f has (xs ++ (js ++ ys)) none ≡ atFirst c f has js none
+    middle has none =
+        first-append c f has xs (js ++ ys) none ∙ first-none c f has xs _ (kept-none c f xs e)
+        ∙ first-append c f has js ys none ∙ ap (atFirst c f has js) (first-none c f has ys none (kept-none c f ys g))
 
 cut : (is : List ℕ) (a b : ℕ) → a ≤ b → take a is ++ (take (b - a) (drop a is) ++ drop b is) ≡ is
 cut is a b h =

@@ -6,7 +6,7 @@ use mathlib.Core.Path.{_≡_, refl, sym, ap, _∙_}
 use mathlib.Core.Bool.{Bool, true}
 use mathlib.Core.List.{List, [], _∷_, _++_, map, append-assoc}
 use borrow.Author.Tests.{ne-eqb}
-use lib.ListN.{length, take, drop, length-take, length-drop, length-map}
+use lib.ListN.{length, take, drop, length-take, length-drop, length-append, length-map}
 use lib.Seq.{drop-drop}
 use Rattle.pair.specs.Rank.{position}
 use Rattle.pair.specs.Rising.{Each, keep}
@@ -23,7 +23,7 @@ use Rattle.card.proofs.Circle.{around-mod}
 use Rattle.lookup.specs.declared.walk.Stretch.{Stretch}
 use Rattle.lookup.specs.declared.walk.Walk.{Walk}
 use Rattle.lookup.specs.declared.walk.StretchRun.{StretchRun}
-use Rattle.lookup.specs.code.Walk.{PlacePart, postings, runOf, runStartOf, aheadOf, firstRun, firstStart, Ready, Sought, orElse, orElseAt, ReadyWalk, Next}
+use Rattle.lookup.specs.code.Walk.{PlacePart, postings, atFirst, placesOf, aheadOf, firstRun, firstStart, Ready, Sought, ReadyWalk, Next}
 
 -- what a block answers, said of the card: nothing,
 pub place-none : {c : List ℕ} {i t a z : ℕ} {r : Part} → BlockPart (place c i) t a z r → r .len ≡ 0 → PlacePart c i t a z (record { start = 0; len = 0 })
@@ -63,6 +63,14 @@ map-append : (f : ℕ → ℕ) (xs ys : List ℕ) → map f (xs ++ ys) ≡ map f
 map-append f [] ys = refl
 map-append f (x ∷ xs) ys = ap (λ l. f x ∷ l) (map-append f xs ys)
 
+map-nil : (f : ℕ → ℕ) (xs : List ℕ) → map f xs ≡ [] → xs ≡ []
+map-nil f [] e = refl
+map-nil f (x ∷ xs) e = absurd (let l : suc (length (map f xs)) ≡ 0 = ap length e in omega arith)
+
+append-empty : (xs ys : List ℕ) → xs ++ ys ≡ [] → (xs ≡ []) × (ys ≡ [])
+append-empty [] ys e = (refl, e)
+append-empty (x ∷ xs) ys e = absurd (let l : suc (length (xs ++ ys)) ≡ 0 = ap length e in omega arith)
+
 pub postings-cons : (c : List ℕ) (f : ℕ → Bool) (i : ℕ) (is : List ℕ) → postings c f (i ∷ is) ≡ map position (keep f (pairs (place c i))) ++ postings c f is
 unfolding postings pairsAt
 postings-cons c f i is =
@@ -80,48 +88,53 @@ places-step n p (suc b) h l =
     let e : suc b - 1 ≡ b = omega arith in
     rw (mod-eq-of-lt l, e, around-mod n (p + 1) b)
 
--- a block with nothing wanted is passed over; one with something has the run
-pub run-skip : (c : List ℕ) (f : ℕ → Bool) (i : ℕ) (is : List ℕ) → keep f (pairs (place c i)) ≡ [] → runOf c f (i ∷ is) ≡ runOf c f is
-unfolding runOf
-run-skip c f i is e = go (keep f (pairs (place c i))) e
-  where
-    go : (ks : List ℕ) → ks ≡ [] → elim ks [ [] ↦ runOf c f is | x ∷ xs ↦ map position (x ∷ xs) ] ≡ runOf c f is
-    go [] l = refl
-    go (x ∷ xs) l = absurd (let z : suc (length xs) ≡ 0 = ap length l in omega arith)
-
-pub start-skip : (c : List ℕ) (f : ℕ → Bool) (i : ℕ) (is : List ℕ) → keep f (pairs (place c i)) ≡ [] → runStartOf c f (i ∷ is) ≡ runStartOf c f is
-unfolding runStartOf
-start-skip c f i is e = go (keep f (pairs (place c i))) e
-  where
-    go : (ks : List ℕ) → ks ≡ [] → elim ks [ [] ↦ runStartOf c f is | x ∷ xs ↦ placeAt c i + wordsBefore f (place c i) 0 0 ] ≡ runStartOf c f is
-    go [] l = refl
-    go (x ∷ xs) l = absurd (let z : suc (length xs) ≡ 0 = ap length l in omega arith)
-
 postings-skip : (c : List ℕ) (f : ℕ → Bool) (i : ℕ) (is : List ℕ) → keep f (pairs (place c i)) ≡ [] → postings c f (i ∷ is) ≡ postings c f is
 postings-skip c f i is e = postings-cons c f i is ∙ rw e
 
-run-hit : (c : List ℕ) (f : ℕ → Bool) (i : ℕ) (is : List ℕ) → 0 < length (keep f (pairs (place c i))) → runOf c f (i ∷ is) ≡ map position (keep f (pairs (place c i)))
-unfolding runOf
-run-hit c f i is h = go (keep f (pairs (place c i))) h
-  where
-    go : (ks : List ℕ) → 0 < length ks → elim ks [ [] ↦ runOf c f is | x ∷ xs ↦ map position (x ∷ xs) ] ≡ map position ks
-    go [] l = absurd (omega arith)
-    go (x ∷ xs) l = refl
+-- what the first of the places has where some pair passes the test
+module _ {A : Type 0} (c : List ℕ) (f : ℕ → Bool) (has : ℕ → A) where
+  abbrev kept : ℕ → List ℕ
+  kept i = keep f (pairs (place c i))
 
-start-hit : (c : List ℕ) (f : ℕ → Bool) (i : ℕ) (is : List ℕ) → 0 < length (keep f (pairs (place c i))) → runStartOf c f (i ∷ is) ≡ placeAt c i + wordsBefore f (place c i) 0 0
-unfolding runStartOf
-start-hit c f i is h = go (keep f (pairs (place c i))) h
-  where
-    go : (ks : List ℕ) → 0 < length ks → elim ks [ [] ↦ runStartOf c f is | x ∷ xs ↦ placeAt c i + wordsBefore f (place c i) 0 0 ] ≡ placeAt c i + wordsBefore f (place c i) 0 0
-    go [] l = absurd (omega arith)
-    go (x ∷ xs) l = refl
+  first-skip : (i : ℕ) (is : List ℕ) (none : A) → kept i ≡ [] → atFirst c f has (i ∷ is) none ≡ atFirst c f has is none
+  unfolding atFirst
+  first-skip i is none e = rw (e, atFirst)
+
+  first-hit : (i : ℕ) (is : List ℕ) (none : A) → 0 < length (kept i) → atFirst c f has (i ∷ is) none ≡ has i
+  unfolding atFirst
+  first-hit i is none h = go (kept i) h
+    where
+      go : (ks : List ℕ) → 0 < length ks → elim ks [ [] ↦ atFirst c f has is none | x ∷ xs ↦ has i ] ≡ has i
+      go [] l = absurd (omega arith)
+      go (x ∷ xs) l = refl
+
+  pub first-append : (is js : List ℕ) (none : A) → atFirst c f has (is ++ js) none ≡ atFirst c f has is (atFirst c f has js none)
+  unfolding atFirst
+  first-append [] js none = refl
+  first-append (i ∷ is) js none = ap (λ (r : A). elim (kept i) [ [] ↦ r | x ∷ xs ↦ has i ]) (first-append is js none)
+
+  -- where no pair passes, it is that of no place; where one does, that plays no part
+  pub first-none : (is : List ℕ) (none : A) → keep f (pairsAt c is) ≡ [] → atFirst c f has is none ≡ none
+  first-none [] none e = unfold atFirst in refl
+  first-none (i ∷ is) none e = first-skip i is none (both .0) ∙ first-none is none (both .1)
+    where
+      both : (kept i ≡ []) × (keep f (pairsAt c is) ≡ [])
+      both = append-empty (kept i) (keep f (pairsAt c is)) (unfold pairsAt in (sym (keep-append f (pairs (place c i)) (pairsAt c is)) ∙ e))
+
+  first-some : (is : List ℕ) (a b : A) → 0 < length (postings c f is) → atFirst c f has is a ≡ atFirst c f has is b
+  first-some [] a b h = absurd (omega (arith, ap length (postings-none c f)))
+  first-some (i ∷ is) a b h = go (first-some is a b) (kept i) refl
+    where
+      go : (0 < length (postings c f is) → atFirst c f has is a ≡ atFirst c f has is b) → (ks : List ℕ) → kept i ≡ ks → atFirst c f has (i ∷ is) a ≡ atFirst c f has (i ∷ is) b
+      go ih [] e = first-skip i is a e ∙ ih (rw (postings-skip c f i is e) at h) ∙ sym (first-skip i is b e)
+      go ih (x ∷ xs) e = let l : 0 < length (kept i) = rw e (omega arith) in first-hit i is a l ∙ sym (first-hit i is b l)
 
 -- the first run of the stretch s is that of the so many blocks from the place on
 pub record Seeking (c : List ℕ) (t z : ℕ) (s : Stretch) (p b : ℕ) : Type 0 where
   pub most : b ≤ s .blocks
   pub ready : Ready c s → Ready c (record { place = p; blocks = b; after = s .after })
-  pub run : Ready c s → firstRun c t z s ≡ firstRun c t z (record { place = p; blocks = b; after = s .after })
-  pub starts : Ready c s → firstStart c t z s ≡ firstStart c t z (record { place = p; blocks = b; after = s .after })
+  pub run : Ready c s → firstRun c t z s [] ≡ firstRun c t z (record { place = p; blocks = b; after = s .after }) []
+  pub starts : Ready c s → firstStart c t z s 0 ≡ firstStart c t z (record { place = p; blocks = b; after = s .after }) 0
   pub rest : Ready c s → aheadOf c t z s ≡ aheadOf c t z (record { place = p; blocks = b; after = s .after })
 
 pub seeking-start : (c : List ℕ) (t z : ℕ) (s : Stretch) → Seeking c t z s (s .place) (s .blocks)
@@ -139,18 +152,14 @@ seeking-end {c} {t} {z} {s} {p} {b} k e =
       fewer = λ l. absurd (let z : ⊥ = omega arith in z);
       spent = λ l. refl;
       ready = λ r. rw e at (k .ready r);
-      run = λ r. sym (unfold runOf around in (rw e at (k .run r)));
-      starts = λ r. sym (unfold runStartOf around in (rw e at (k .starts r)));
+      run = λ r. sym (unfold atFirst around in (rw e at (k .run r)));
+      starts = λ r. sym (unfold atFirst around in (rw e at (k .starts r)));
       rest = λ r. rw e at (k .rest r);
       none = λ r l. (rw e at (k .rest r)) ∙ none;
     }
   where
     none : aheadOf c t z (record { place = p; blocks = 0; after = s .after }) ≡ []
     none = unfold around in postings-none c (isWanted t (s .after) z)
-
-map-nil : (f : ℕ → ℕ) (xs : List ℕ) → map f xs ≡ [] → xs ≡ []
-map-nil f [] e = refl
-map-nil f (x ∷ xs) e = absurd (let l : suc (length (map f xs)) ≡ 0 = ap length e in omega arith)
 
 -- the block at the place is read
 module _ {c : List ℕ} {t z : ℕ} {s : Stretch} {p b : ℕ} {x : Part} {k : Configuration} {q : ℕ} (g : Seeking c t z s p b) (o : ConfigurationOf c k) (h : 0 < b) (y : PlacePart c p t (s .after) z x) (e : q ≡ placeOn (k .places) p 1) where
@@ -185,8 +194,8 @@ module _ {c : List ℕ} {t z : ℕ} {s : Stretch} {p b : ℕ} {x : Part} {k : Co
       record {
         most = omega (arith, g .most);
         ready = ready;
-        run = λ r. g .run r ∙ rw (step r) (run-skip c f p behind (none r));
-        starts = λ r. g .starts r ∙ rw (step r) (start-skip c f p behind (none r));
+        run = λ r. g .run r ∙ rw (step r) (first-skip c f _ p behind [] (none r));
+        starts = λ r. g .starts r ∙ rw (step r) (first-skip c f _ p behind 0 (none r));
         rest = λ r. g .rest r ∙ rw (step r) (postings-skip c f p behind (none r));
       }
     where
@@ -205,8 +214,8 @@ module _ {c : List ℕ} {t z : ℕ} {s : Stretch} {p b : ℕ} {x : Part} {k : Co
         fewer = λ j. omega (arith, g .most);
         spent = λ j. absurd (let z : ⊥ = omega arith in z);
         ready = ready;
-        run = λ r. y .positions (live r .0) ∙ sym (g .run r ∙ rw (step r) (run-hit c f p behind (some r)));
-        starts = λ r. y .before (live r .0) l ∙ sym (g .starts r ∙ rw (step r) (start-hit c f p behind (some r)));
+        run = λ r. y .positions (live r .0) ∙ sym (g .run r ∙ rw (step r) (first-hit c f _ p behind [] (some r)));
+        starts = λ r. y .before (live r .0) l ∙ sym (g .starts r ∙ rw (step r) (first-hit c f _ p behind 0 (some r)));
         rest = λ r. g .rest r ∙ rw (step r) (postings-cons c f p behind ∙ rw (y .positions (live r .0)));
         none = λ r j. absurd (let z : ⊥ = omega arith in z);
       }
@@ -219,16 +228,6 @@ module _ {c : List ℕ} {t z : ℕ} {s : Stretch} {p b : ℕ} {x : Part} {k : Co
           omega arith
 
 -- two stretches, one after the other
-or-some : (xs ys : List ℕ) → 0 < length xs → orElse xs ys ≡ xs
-unfolding orElse
-or-some [] ys h = absurd (omega arith)
-or-some (x ∷ xs) ys h = refl
-
-or-some-at : (xs : List ℕ) (i j : ℕ) → 0 < length xs → orElseAt xs i j ≡ i
-unfolding orElseAt
-or-some-at [] i j h = absurd (omega arith)
-or-some-at (x ∷ xs) i j h = refl
-
 pub next-new :
     {c : List ℕ} {w : Walk} {r : StretchRun} → Sought c (w .term) (w .to) (w .new) r → 0 < r .len →
     Next c w (record { start = r .start; len = r .len; rest = record { term = w .term; to = w .to; new = r .rest; old = w .old } })
@@ -238,14 +237,14 @@ next-new {c} {w} {r} s h =
       fewer = λ l. omega (arith, s .fewer h);
       spent = λ e. absurd (let z : ⊥ = omega arith in z);
       ready = λ g. record { new = s .ready (g .new); old = g .old };
-      run = λ g. s .run (g .new) ∙ sym (or-some (firstRun c (w .term) (w .to) (w .new)) _ (some g));
-      starts = λ g. s .starts (g .new) ∙ sym (or-some-at (firstRun c (w .term) (w .to) (w .new)) _ _ (some g));
+      run = λ g. s .run (g .new) ∙ first-some c _ _ _ _ _ (some g);
+      starts = λ g. s .starts (g .new) ∙ first-some c _ _ _ _ _ (some g);
       rest = λ g. ap (λ l. l ++ aheadOf c (w .term) (w .to) (w .old)) (s .rest (g .new)) ∙ append-assoc (take (r .len) (drop (r .start) c)) (aheadOf c (w .term) (w .to) (r .rest)) (aheadOf c (w .term) (w .to) (w .old));
       none = λ g e. absurd (let z : ⊥ = omega arith in z);
     }
   where
-    some : ReadyWalk c w → 0 < length (firstRun c (w .term) (w .to) (w .new))
-    some g = rw (← s .run (g .new), length-part c (r .start) (r .len) (s .inside)) h
+    some : ReadyWalk c w → 0 < length (aheadOf c (w .term) (w .to) (w .new))
+    some g = rw (s .rest (g .new), length-append, length-part c (r .start) (r .len) (s .inside)) (omega arith)
 
 pub next-old :
     {c : List ℕ} {w : Walk} {r q : StretchRun} → Sought c (w .term) (w .to) (w .new) r → r .len ≤ 0 → Sought c (w .term) (w .to) (w .old) q →
@@ -256,8 +255,8 @@ next-old {c} {w} {r} {q} s h u =
       fewer = λ l. omega (arith, s .most, u .fewer l);
       spent = λ e. omega (arith, s .spent empty, u .spent e);
       ready = λ g. record { new = s .ready (g .new); old = u .ready (g .old) };
-      run = λ g. u .run (g .old) ∙ sym (unfold orElse in rw (run g));
-      starts = λ g. u .starts (g .old) ∙ sym (unfold orElseAt in rw (run g));
+      run = λ g. u .run (g .old) ∙ sym (first-none c _ _ _ _ (kept g));
+      starts = λ g. u .starts (g .old) ∙ sym (first-none c _ _ _ _ (kept g));
       rest = λ g. rw (none g, behind g) (u .rest (g .old));
       none = λ g e. rw (none g) (u .none (g .old) e);
     }
@@ -265,11 +264,11 @@ next-old {c} {w} {r} {q} s h u =
     empty : r .len ≡ 0
     empty = omega arith
 
-    run : ReadyWalk c w → firstRun c (w .term) (w .to) (w .new) ≡ []
-    run g = sym (rw empty at (s .run (g .new)))
-
     none : ReadyWalk c w → aheadOf c (w .term) (w .to) (w .new) ≡ []
     none g = s .none (g .new) empty
+
+    kept : ReadyWalk c w → keep (isWanted (w .term) (w .new .after) (w .to)) (pairsAt c (placesOf c (w .new))) ≡ []
+    kept g = map-nil position _ (unfold postings in none g)
 
     behind : ReadyWalk c w → aheadOf c (w .term) (w .to) (r .rest) ≡ []
     behind g = sym (rw empty at (s .rest (g .new))) ∙ none g
