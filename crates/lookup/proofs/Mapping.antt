@@ -10,6 +10,7 @@ use lib.ListN.{length, getD, length-map}
 use lib.Dec.{ltb, leb, eqb}
 use Rattle.pair.specs.Rank.{wordLimit, rank, term, position}
 use Rattle.pair.specs.Rising.{keep, atMost, risingFrom, last}
+use Rattle.pair.specs.declared.Pair.{Pair}
 use Rattle.pair.proofs.Parts.{atMost-none}
 use Rattle.pair.proofs.Rising.{rising-cons, rising-weaker, rising-tail}
 use Rattle.pair.proofs.Tests.{and-left, and-right}
@@ -71,7 +72,7 @@ mapped-at c (i ∷ is) (suc m) h = mapped-at c is m (omega arith)
 abbrev pub mapped : List ℕ → ℕ → ℕ → List ℕ
 mapped c start len = map (firstPair c) (around (placeCount c) start len)
 
-pub length-mapped : (c : List ℕ) (start len : ℕ) → length (mapped c start len) ≡ len
+length-mapped : (c : List ℕ) (start len : ℕ) → length (mapped c start len) ≡ len
 length-mapped c start len = length-map (around (placeCount c) start len) (firstPair c) ∙ length-around (placeCount c) start len
 
 -- what is sought of the map of the len places from start lies from low to high
@@ -104,47 +105,57 @@ search-end {c} {k} {start} {len} {r} h l s =
     let rises = mapped-rising c (around (placeCount c) start len) 0 (s .sound) (s .rises) in
     halved-end (h .half) l rises ∙ sym (mapped-count c (around (placeCount c) start len) 0 r (s .sound) (s .rises))
 
--- what is wanted of a segment whose pairs at or below the bound are not live: beyond the term's stretch,
-pub live-beyond : {t a z b : ℕ} → t < term b → z < wordLimit → LiveAfter t a z b z
-live-beyond {t} {a} {z} {b} h l = record { same = λ x. go x (leb x (rank t z)) refl }
+-- What is wanted of a segment whose pairs at or below the bound are not live. The bound's pair is of a later term,
+pub live-beyond : {t a z b : ℕ} {last : Pair} → last ≡ record { term = term b; position = position b } → t < last .term → z < wordLimit → LiveAfter t a z b z
+live-beyond {t} {a} {z} {b} {last} q h l = record { same = λ x. go x (leb x (rank t z)) refl }
   where
     go : (x : ℕ) (s : Bool) → leb x (rank t z) ≡ s → (ltb (rank t z) x && s) ≡ (ltb b x && (leb (rank t a) x && s))
     go x true e =
         let m : x ≤ rank t z = leb-true x (rank t z) e in
-        rw (le-ltb (rank t z) x m, le-ltb b x (omega arith))
+        rw (le-ltb (rank t z) x m, le-ltb b x (omega (arith, ap (λ p. p .term) q)))
     go x false e = rw (and-false, and-false, and-false)
 
--- in it,
+-- of the term and not below the range,
 keeps : (a b y : Bool) → (a ≡ true → b ≡ true) → (a && y) ≡ (a && (b && y))
 keeps true b y h = rw (h refl)
 keeps false b y h = refl
 
-pub live-bound : {t a z b : ℕ} → (eqb (term b) t && leb a (position b)) ≡ true → LiveAfter t a z b (position b)
-live-bound {t} {a} {z} {b} e =
-    let same : term b ≡ t = eqb-true (term b) t (and-left (eqb (term b) t) (leb a (position b)) e) in
-    let low : a ≤ position b = leb-true a (position b) (and-right (eqb (term b) t) (leb a (position b)) e) in
-    let whole : rank t (position b) ≡ b = omega arith in
-    record { same = λ x. rw whole (keeps (ltb b x) (leb (rank t a) x) (leb x (rank t z)) (λ q. let m : b < x = ltb-true b x q in le-leb (rank t a) x (omega arith))) }
+pub live-bound :
+    {t a z b : ℕ} {last : Pair} → last ≡ record { term = term b; position = position b } → (eqb (last .term) t && leb a (last .position)) ≡ true →
+    LiveAfter t a z b (last .position)
+live-bound {t} {a} {z} {b} {last} q e =
+    let same : last .term ≡ t = eqb-true (last .term) t (and-left (eqb (last .term) t) (leb a (last .position)) e) in
+    let low : a ≤ last .position = leb-true a (last .position) (and-right (eqb (last .term) t) (leb a (last .position)) e) in
+    let whole : rank t (last .position) ≡ b = omega (arith, ap (λ p. p .term) q, ap (λ p. p .position) q) in
+    record { same = λ x. rw whole (keeps (ltb b x) (leb (rank t a) x) (leb x (rank t z)) (λ g. let m : b < x = ltb-true b x g in le-leb (rank t a) x (omega arith))) }
 
--- and before it.
+-- or below the range.
 adds : (a b y : Bool) → (b ≡ true → a ≡ true) → (b && y) ≡ (a && (b && y))
 adds a true y h = rw (h refl)
 adds a false y h = sym (and-false a)
 
-pub live-from : {t a z b : ℕ} → term b ≤ t → (eqb (term b) t && leb a (position b)) ≡ false → 1 ≤ a → LiveAfter t a z b (a - 1)
-live-from {t} {a} {z} {b} h e o =
+pub live-from :
+    {t a z b : ℕ} {last : Pair} → last ≡ record { term = term b; position = position b } → last .term ≤ t →
+    (eqb (last .term) t && leb a (last .position)) ≡ false → 1 ≤ a → LiveAfter t a z b (a - 1)
+live-from {t} {a} {z} {b} {last} q h e o =
     record {
       same = λ x.
-          ap (λ q. q && leb x (rank t z)) (before x)
-          ∙ adds (ltb b x) (leb (rank t a) x) (leb x (rank t z)) (λ q. let m : rank t a ≤ x = leb-true (rank t a) x q in lt-ltb b x (omega (arith, under)));
+          ap (λ y. y && leb x (rank t z)) (before x)
+          ∙ adds (ltb b x) (leb (rank t a) x) (leb x (rank t z)) (λ g. let m : rank t a ≤ x = leb-true (rank t a) x g in lt-ltb b x (omega (arith, under)));
     }
   where
     under : b < rank t a
-    under = go (eqb (term b) t) (leb a (position b)) refl refl e
+    under = go (eqb (last .term) t) (leb a (last .position)) refl refl e
       where
-        go : (x y : Bool) → eqb (term b) t ≡ x → leb a (position b) ≡ y → (x && y) ≡ false → b < rank t a
-        go false y f g k = let n : (term b ≡ t → ⊥) = eqb-false (term b) t f in let l : term b < t = omega arith in omega arith
-        go true false f g k = let n : position b < a = leb-false a (position b) g in let l : term b ≡ t = eqb-true (term b) t f in omega arith
+        whole : rank (last .term) (last .position) ≡ b
+        whole = omega (arith, ap (λ p. p .term) q, ap (λ p. p .position) q)
+
+        small : last .position < wordLimit
+        small = omega (arith, ap (λ p. p .position) q)
+
+        go : (x y : Bool) → eqb (last .term) t ≡ x → leb a (last .position) ≡ y → (x && y) ≡ false → b < rank t a
+        go false y f g k = let n : (last .term ≡ t → ⊥) = eqb-false (last .term) t f in let l : last .term < t = omega arith in omega (arith, whole, small)
+        go true false f g k = let n : last .position < a = leb-false a (last .position) g in let l : last .term ≡ t = eqb-true (last .term) t f in omega (arith, whole)
         go true true f g k = absurd (let z : _≡_ {A = ℕ} 0 1 = cc in omega arith)
 
     before : (x : ℕ) → ltb (rank t (a - 1)) x ≡ leb (rank t a) x

@@ -4,23 +4,22 @@ use native.Mathlib.Nat.{mod-lt}
 use native.Mathlib.Omega.{arith}
 use mathlib.Core.Path.{_≡_, refl, sym, ap, _∙_}
 use mathlib.Core.Bool.{Bool, true, false, cond, _&&_, _||_}
-use mathlib.Core.List.{List, [], _∷_, _++_, map, append-nil}
+use mathlib.Core.List.{List, [], _∷_, _++_, append-nil}
 use mathlib.Core.Logic.{inr}
-use borrow.Author.Tests.{leb-true, leb-false, le-leb, ltb-true, lt-ltb, eqb-true}
-use lib.ListN.{length, take, drop, getD, take-append-drop, length-append, List·getD-append}
+use borrow.Author.Tests.{leb-true, leb-false, le-leb, ltb-true, lt-ltb}
+use lib.ListN.{length, take, drop, getD, take-append-drop}
 use lib.Seq.{drop-drop}
 use lib.Dec.{ltb, leb, eqb}
-use Rattle.pair.specs.Rank.{rank, position}
+use Rattle.pair.specs.Rank.{rank}
 use Rattle.pair.specs.Rising.{Each, keep, within, risingFrom, last}
 use Rattle.pair.proofs.Each.{Each-imply, Each-take, Each-drop}
 use Rattle.pair.proofs.Keep.{keep-append, keep-none}
 use Rattle.pair.proofs.Parts.{atMost-all, Each-atMost}
-use Rattle.pair.proofs.Rising.{rising-cons, rising-head, rising-tail, rising-last}
+use Rattle.pair.proofs.Rising.{rising-last}
 use Rattle.pair.proofs.Sets.{rising-Each}
 use Rattle.pair.proofs.Tests.{and-left, and-right, or-intro}
-use Rattle.block.specs.Block.{pairs, wordsBefore, formed}
-use Rattle.block.proofs.Reading.{formed-some}
-use Rattle.card.specs.Layout.{placeCount, placeAt, firstPair, place, around, pairsAt}
+use Rattle.block.specs.Block.{pairs, formed}
+use Rattle.card.specs.Layout.{placeCount, firstPair, place, around, pairsAt}
 use Rattle.card.specs.Sound.{blocksSound}
 use Rattle.card.specs.code.Configuration.{placeOn}
 use Rattle.card.specs.declared.layout.Configuration.{Configuration}
@@ -34,7 +33,7 @@ use Rattle.lookup.proofs.Span.{First, first, mapped-none, mapped-leadin
 use Rattle.lookup.proofs.Walking.{first-append, first-none}
 
 -- nothing at the place passes the test
-abbrev pub Empty : List ℕ → (ℕ → Bool) → ℕ → Type 0
+abbrev Empty : List ℕ → (ℕ → Bool) → ℕ → Type 0
 Empty c f i = keep f (pairs (place c i)) ≡ []
 
 -- places whose pairs lie above z
@@ -129,7 +128,7 @@ cut is a b h =
     ∙ ap (λ l. take a is ++ l) (take-append-drop (b - a) (drop a is))
     ∙ take-append-drop a is
 
-pub mapped-order : (c : List ℕ) (a z : ℕ) (is : List ℕ) → a ≤ z → mappedTo c a is ≤ mappedTo c z is
+mapped-order : (c : List ℕ) (a z : ℕ) (is : List ℕ) → a ≤ z → mappedTo c a is ≤ mappedTo c z is
 unfolding mappedTo
 mapped-order c a z [] h = omega arith
 mapped-order c a z (i ∷ is) h =
@@ -145,7 +144,7 @@ mapped-order c a z (i ∷ is) h =
     go true b e g f ih = let l : firstPair c i ≤ a = leb-true (firstPair c i) a e in rw (le-leb (firstPair c i) z (omega arith))
     go false b e g f ih = let l : 0 < mappedTo c a is = ltb-true 0 (mappedTo c a is) (g ∙ f) in or-intro (leb (firstPair c i) z) (ltb 0 (mappedTo c z is)) (inr (lt-ltb 0 (mappedTo c z is) (omega arith)))
 
-pub mapped-most : (c : List ℕ) (z : ℕ) (is : List ℕ) → mappedTo c z is ≤ length is
+mapped-most : (c : List ℕ) (z : ℕ) (is : List ℕ) → mappedTo c z is ≤ length is
 unfolding mappedTo
 mapped-most c z [] = omega arith
 mapped-most c z (i ∷ is) = go (leb (firstPair c i) z || ltb 0 (mappedTo c z is)) (mapped-most c z is)

@@ -4,14 +4,14 @@ use native.Mathlib.Nat.{mod-eq-of-lt, mod-lt}
 use native.Mathlib.Omega.{arith}
 use mathlib.Core.Path.{_≡_, refl, sym, ap, _∙_}
 use mathlib.Core.Bool.{Bool, true}
-use mathlib.Core.List.{List, [], _∷_, _++_, map, append-assoc}
+use mathlib.Core.List.{List, [], _∷_, _++_, map, map-append, append-assoc}
 use borrow.Author.Tests.{ne-eqb}
 use lib.ListN.{length, take, drop, length-take, length-drop, length-append, length-map}
 use lib.Seq.{drop-drop}
 use Rattle.pair.specs.Rank.{position}
 use Rattle.pair.specs.Rising.{Each, keep}
 use Rattle.pair.proofs.Keep.{keep-append}
-use Rattle.block.specs.Block.{pairs, wordsBefore, formed}
+use Rattle.block.specs.Block.{pairs, formed}
 use Rattle.block.specs.code.Wanted.{isWanted, BlockPart}
 use Rattle.block.specs.declared.wanted.Part.{Part}
 use Rattle.block.proofs.Seeking.{take-part}
@@ -59,10 +59,6 @@ place-some {c} {i} {t} {a} {z} {r} p h =
     whole : formed (place c i) ≡ true → take (r .len) (drop (r .start) (take (blockSize c) (drop (placeAt c i) c))) ≡ map position (keep (isWanted t a z) (pairs (place c i)))
     whole f = unfold place in p .positions f
 
-map-append : (f : ℕ → ℕ) (xs ys : List ℕ) → map f (xs ++ ys) ≡ map f xs ++ map f ys
-map-append f [] ys = refl
-map-append f (x ∷ xs) ys = ap (λ l. f x ∷ l) (map-append f xs ys)
-
 map-nil : (f : ℕ → ℕ) (xs : List ℕ) → map f xs ≡ [] → xs ≡ []
 map-nil f [] e = refl
 map-nil f (x ∷ xs) e = absurd (let l : suc (length (map f xs)) ≡ 0 = ap length e in omega arith)
@@ -71,10 +67,10 @@ append-empty : (xs ys : List ℕ) → xs ++ ys ≡ [] → (xs ≡ []) × (ys ≡
 append-empty [] ys e = (refl, e)
 append-empty (x ∷ xs) ys e = absurd (let l : suc (length (xs ++ ys)) ≡ 0 = ap length e in omega arith)
 
-pub postings-cons : (c : List ℕ) (f : ℕ → Bool) (i : ℕ) (is : List ℕ) → postings c f (i ∷ is) ≡ map position (keep f (pairs (place c i))) ++ postings c f is
+postings-cons : (c : List ℕ) (f : ℕ → Bool) (i : ℕ) (is : List ℕ) → postings c f (i ∷ is) ≡ map position (keep f (pairs (place c i))) ++ postings c f is
 unfolding postings pairsAt
 postings-cons c f i is =
-    ap (map position) (keep-append f (pairs (place c i)) (pairsAt c is)) ∙ map-append position (keep f (pairs (place c i))) (keep f (pairsAt c is))
+    ap (map position) (keep-append f (pairs (place c i)) (pairsAt c is)) ∙ map-append _ (keep f (pairs (place c i))) (keep f (pairsAt c is))
 
 pub postings-none : (c : List ℕ) (f : ℕ → Bool) → postings c f [] ≡ []
 unfolding postings pairsAt keep

@@ -74,12 +74,6 @@ step-astray r o l h =
       after = λ t a z n s. absurd (let i = s .inside in let z : ⊥ = omega arith in z);
     }
 
--- no posting is left
-pub step-none :
-    {c : List ℕ} {at left : ℕ} {w : Walk} {r : Step} → left ≡ 0 → CursorStep c (record { at = at; left = 0; walk = w }) r →
-    CursorStep c (record { at = at; left = left; walk = w }) r
-step-none e s = rw e s
-
 -- the next run is found
 over :
     {c : List ℕ} {at : ℕ} {w : Walk} {r : WalkRun} → Next c w r → (t a z n : ℕ) →

@@ -19,7 +19,7 @@ use Rattle.lookup.specs.declared.walk.WalkStart.{WalkStart}
 use Rattle.lookup.specs.declared.walk.WalkRun.{WalkRun}
 use Rattle.lookup.specs.Found.{found, questionNumber, blocksRead}
 
--- of a live block, the part has the wanted positions, and starts where the first of them stands
+-- the part lies in the card; of a live block it has the wanted positions, and starts where the first of them stands
 pub record PlacePart (c : List ℕ) (i t a z : ℕ) (r : Part) : Type 0 where
   pub inside : r .start + r .len ≤ length c
   pub positions : formed (place c i) ≡ true → take (r .len) (drop (r .start) c) ≡ map position (keep (isWanted t a z) (pairs (place c i)))
@@ -31,7 +31,7 @@ pub record PlacePart (c : List ℕ) (i t a z : ℕ) (r : Part) : Type 0 where
 unfoldable pub postings : List ℕ → (ℕ → Bool) → List ℕ → List ℕ
 postings c f is = map position (keep f (pairsAt c is))
 
--- what the first of the places has where some pair passes the test; the last argument where there is no such place
+-- what the first of the places has at which some pair passes the test; the last argument where there is no such place
 unfoldable pub atFirst : {A : Type 0} → List ℕ → (ℕ → Bool) → (ℕ → A) → List ℕ → A → A
 atFirst c f has [] none = none
 atFirst c f has (i ∷ is) none = elim (keep f (pairs (place c i))) [ [] ↦ atFirst c f has is none | x ∷ xs ↦ has i ]
@@ -50,6 +50,7 @@ placesOf c s = around (placeCount c) (s .place) (s .blocks)
 abbrev pub aheadOf : List ℕ → ℕ → ℕ → Stretch → List ℕ
 aheadOf c t z s = postings c (isWanted t (s .after) z) (placesOf c s)
 
+-- its first run, and where in the card that starts; the last argument where nothing is wanted
 abbrev pub firstRun : List ℕ → ℕ → ℕ → Stretch → List ℕ → List ℕ
 firstRun c t z s none = runOf c (isWanted t (s .after) z) (placesOf c s) none
 
@@ -81,6 +82,7 @@ ahead c w = aheadOf c (w .term) (w .to) (w .new) ++ aheadOf c (w .term) (w .to) 
 abbrev pub blocksOf : Walk → ℕ
 blocksOf w = w .new .blocks + w .old .blocks
 
+-- the first run of the new segment's blocks, or else of the old segment's
 abbrev pub nextRun : List ℕ → Walk → List ℕ
 nextRun c w = firstRun c (w .term) (w .to) (w .new) (firstRun c (w .term) (w .to) (w .old) [])
 

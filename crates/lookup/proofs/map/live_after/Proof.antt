@@ -9,17 +9,16 @@ of-rank-requires : tie.Need-of-rank-requires
 of-rank-requires c κs = search needs
 
 returns : tie.Need-returns
-returns c = live-beyond (rw (c .before .of-rank .ensures) at (c .if1 .taken)) (omega arith)
+returns c = live-beyond (c .before .of-rank .ensures) (c .if1 .taken) (omega arith)
 
 returns-2 : tie.Need-returns-2
-returns-2 c = rw (c .before .before .of-rank .ensures) (live-bound (rw (c .before .before .of-rank .ensures) at (c .if2 .taken)))
+returns-2 c = live-bound (c .before .before .of-rank .ensures) (c .if2 .taken)
 
 sub-result : tie.Need-sub-result
 sub-result c = search needs
 
 returns-3 : tie.Need-returns-3
-returns-3 c = let e = c .before .before .of-rank .ensures in
-    live-from (rw e at (c .before .if1 .left)) (rw e at (c .if2 .left)) (c .before .before .before .pre)
+returns-3 c = live-from (c .before .before .of-rank .ensures) (c .before .if1 .left) (c .if2 .left) (c .before .before .before .pre)
 
 pub live-after-spec : {M : Type 1} → statement M
 live-after-spec = tie.close (tie.spec of-rank-requires returns returns-2 sub-result returns-3)

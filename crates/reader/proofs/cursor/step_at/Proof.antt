@@ -1,6 +1,6 @@
 -- `reader::cursor::step_at` meets its contract.
 use native.Mathlib.Omega.{arith}
-use Rattle.reader.proofs.Cursors.{step-posting, step-astray, step-none}
+use Rattle.reader.proofs.Cursors.{step-posting, step-astray}
 use borrow.Author.Needs.{needs}
 use Rattle.reader.proofs.cursor.step_at.Statement.{statement}
 use Rattle.reader.proofs.cursor.step_at.Tie as tie
@@ -9,7 +9,7 @@ step-over-requires : tie.Need-step-over-requires
 step-over-requires c κs = search needs
 
 returns : tie.Need-returns
-returns c = step-none (c .before .if1 .taken) (c .step-over .ensures _)
+returns c = rw (c .before .if1 .taken) (c .step-over .ensures _)
 
 returns-2 : tie.Need-returns-2
 returns-2 c = step-astray _ tt (omega (arith, c .before .if1 .left)) (c .if2 .taken)
