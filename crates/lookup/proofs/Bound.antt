@@ -1,28 +1,22 @@
--- A question in order is put to a sound card, and the blocks read for it are at most two more than those with a posting to be found.
+-- The blocks read for a question in order are at most two more than those with a posting to be found.
 use Prim.Native.Nat.{ℕ, _+_, _≤_}
 use native.Mathlib.Omega.{arith}
 use mathlib.Core.Path.{_≡_}
 use mathlib.Core.List.{List}
 use Rattle.pair.specs.Rank.{rank}
-use Rattle.pair.proofs.FirstOf.{handed-on}
 use Rattle.card.specs.Layout.{boundary, oldPlaces, newPlaces}
-use Rattle.card.specs.Sound.{judged}
 use Rattle.card.proofs.Live.{reaches-zero}
 use Rattle.card.proofs.Facts.{facts}
 use Rattle.lookup.specs.Found.{questionNumber, blocksRead, holders}
+use Rattle.lookup.proofs.Answers.{asked}
 use Rattle.lookup.proofs.Span.{span-bound}
-
--- a question in order is put to a sound card
-pub question-sound : (c : List ℕ) (t a z : ℕ) → questionNumber c t a z ≡ 0 → judged c ≡ 0
-unfolding questionNumber
-question-sound c t a z e = handed-on (judged c) _ e .0
 
 pub blocksRead-bound : (c : List ℕ) (t a z : ℕ) → questionNumber c t a z ≡ 0 →
     blocksRead c t a z
     ≤ holders c 0 (rank t a) (rank t z) (newPlaces c) + holders c (boundary c) (rank t a) (rank t z) (oldPlaces c) + 2
 unfolding blocksRead
 blocksRead-bound c t a z e =
-    let f = facts c (question-sound c t a z e) in
+    let f = facts c (asked c t a z e .sound) in
     omega (
       arith,
       span-bound c 0 t a z (newPlaces c) (f .newSound) (f .newRising) (reaches-zero c (newPlaces c) (f .newSound) (f .newRising)),

@@ -8,7 +8,7 @@ use lib.Dec.{ltb, leb}
 use Rattle.pair.specs.Rank.{rank, position}
 use Rattle.pair.specs.Rising.{Each, above, within}
 use Rattle.block.specs.Block.{pairs, wordsBefore}
-use Rattle.card.specs.Layout.{boundary, entryWidth, placeAt, place, oldPlaces, newPlaces}
+use Rattle.card.specs.Layout.{boundary, placeAt, place, oldPlaces, newPlaces}
 use Rattle.card.proofs.Frame.{SameAt, Alike, word-alike, firstPair-alike, boundary-alike, oldPlaces-alike, newPlaces-alike, live-alike, judged-alike}
 use Rattle.lookup.specs.Found.{found, mappedTo, span, blocksRead, questionNumber, lookupNumber, lookup}
 use Rattle.lookup.specs.Views.{runAt, run, runStartAt, runStart}
@@ -35,10 +35,10 @@ runStartAt-alike :
 unfolding runStartAt
 runStartAt-alike c d e k a z [] rest s = refl
 runStartAt-alike c d e k a z (i ∷ is) rest s =
-    let at : placeAt entryWidth d i ≡ placeAt entryWidth c i = rw (word-alike c d e 1 (omega arith), word-alike c d e 2 (omega arith)) in
+    let at : placeAt d i ≡ placeAt c i = rw (word-alike c d e 0 (omega arith), word-alike c d e 1 (omega arith), word-alike c d e 2 (omega arith)) in
     let before : List ℕ → ℕ = λ ws. wordsBefore (λ y. ltb k y && leb a y && leb y z) ws 0 0 in
     ap₂ (λ ys n. startOr ys n (runStartAt d k a z is rest)) (ap (λ ws. above k (within a z (pairs ws))) (s .0 .block)) (ap₂ _+_ at (ap before (s .0 .block)))
-    ∙ ap (startOr (above k (within a z (pairs (place c i)))) (placeAt entryWidth c i + before (place c i))) (runStartAt-alike c d e k a z is rest (s .1))
+    ∙ ap (startOr (above k (within a z (pairs (place c i)))) (placeAt c i + before (place c i))) (runStartAt-alike c d e k a z is rest (s .1))
 
 module _ (c d : List ℕ) (s : Alike c d) where
   pub found-alike : (t a z : ℕ) → found d t a z ≡ found c t a z

@@ -8,15 +8,21 @@ use mathlib.Core.List.{List, [], _∷_, map}
 use borrow.Author.Tests.{ltb-true, leb-true, leb-false, lt-ltb, le-ltb, le-leb, eqb-true, eqb-false}
 use lib.ListN.{length, getD, length-map}
 use lib.Dec.{ltb, leb, eqb}
-use Rattle.pair.specs.Rank.{rank}
+use Rattle.pair.specs.Rank.{wordLimit, rank, term, position}
 use Rattle.pair.specs.Rising.{keep, atMost, risingFrom, last}
+use Rattle.pair.specs.declared.Pair.{Pair}
 use Rattle.pair.proofs.Parts.{atMost-none}
 use Rattle.pair.proofs.Rising.{rising-cons, rising-weaker, rising-tail}
+use Rattle.pair.proofs.Tests.{and-left, and-right}
 use Rattle.pair.proofs.Search.{Halved, halved-start, halved-up, halved-down, halved-end}
 use Rattle.block.specs.Block.{pairs}
 use Rattle.card.specs.Layout.{placeCount, firstPair, place, around, pairsAt}
 use Rattle.card.specs.Sound.{blocksSound}
+use Rattle.card.specs.code.Configuration.{placeOn}
+use Rattle.card.specs.code.Scan.{Ordered}
+use Rattle.card.specs.declared.layout.Configuration.{Configuration}
 use Rattle.card.proofs.Circle.{length-around}
+use Rattle.card.proofs.Ordered.{place-on}
 use Rattle.lookup.specs.Found.{mappedTo}
 use Rattle.lookup.specs.code.Segment.{Segment, LiveAfter}
 use Rattle.lookup.proofs.Span.{first, mapped-leading}
@@ -66,7 +72,7 @@ mapped-at c (i ∷ is) (suc m) h = mapped-at c is m (omega arith)
 abbrev pub mapped : List ℕ → ℕ → ℕ → List ℕ
 mapped c start len = map (firstPair c) (around (placeCount c) start len)
 
-pub length-mapped : (c : List ℕ) (start len : ℕ) → length (mapped c start len) ≡ len
+length-mapped : (c : List ℕ) (start len : ℕ) → length (mapped c start len) ≡ len
 length-mapped c start len = length-map (around (placeCount c) start len) (firstPair c) ∙ length-around (placeCount c) start len
 
 -- what is sought of the map of the len places from start lies from low to high
@@ -79,72 +85,77 @@ pub search-start : (c : List ℕ) (start len k : ℕ) → Searching c start len 
 search-start c start len k =
     record { order = zero-le; inside = omega arith; half = rw (length-mapped c start len) at (halved-start (mapped c start len) k) }
 
-module _ {c : List ℕ} {start len k low high m v : ℕ} (h : Searching c start len k low high) (l : low ≤ m) (u : m < high) (e : v ≡ firstPair c ((start + m) % placeCount c)) where
+module _ {c : List ℕ} {k : Configuration} {start len r low high m v : ℕ} (h : Searching c start len r low high) (o : Ordered c k) (l : low ≤ m) (u : m < high) (e : v ≡ firstPair c (placeOn (k .places) start m)) where
   at-middle : v ≡ getD (mapped c start len) m 0
   at-middle =
       let inside : m < len = omega (arith, h .inside) in
-      e
+      e ∙ ap (firstPair c) (place-on o start m)
       ∙ sym (mapped-at c (around (placeCount c) start len) m (rw length-around inside) ∙ ap (firstPair c) (around-at (placeCount c) start len m inside))
 
-  pub search-up : v ≤ k → Searching c start len k (m + 1) high
+  pub search-up : v ≤ r → Searching c start len r (m + 1) high
   search-up q = record { order = omega arith; inside = h .inside; half = halved-up (h .half) l u (omega (arith, at-middle)) }
 
-  pub search-down : k < v → Searching c start len k low m
+  pub search-down : r < v → Searching c start len r low m
   search-down q = record { order = l; inside = omega (arith, h .inside); half = halved-down (h .half) l u (omega (arith, at-middle)) }
 
 pub search-end :
-    {c : List ℕ} {start len k low high : ℕ} → Searching c start len k low high → high ≤ low → Segment c start len →
-    low ≡ mappedTo c k (around (placeCount c) start len)
-search-end {c} {start} {len} {k} h l s =
+    {c : List ℕ} {k : Configuration} {start len r low high : ℕ} → Searching c start len r low high → high ≤ low → Segment c k start len →
+    low ≡ mappedTo c r (around (placeCount c) start len)
+search-end {c} {k} {start} {len} {r} h l s =
     let rises = mapped-rising c (around (placeCount c) start len) 0 (s .sound) (s .rises) in
-    halved-end (h .half) l rises ∙ sym (mapped-count c (around (placeCount c) start len) 0 k (s .sound) (s .rises))
+    halved-end (h .half) l rises ∙ sym (mapped-count c (around (placeCount c) start len) 0 r (s .sound) (s .rises))
 
--- what is wanted of a segment whose pairs at or below (u, p) are not live
-beyond : (t a z u p : ℕ) → t < u → z < 4294967296 → LiveAfter t a z u p z
-beyond t a z u p h l = record { same = λ x. go x (leb x (rank t z)) refl }
+-- What is wanted of a segment whose pairs at or below the bound are not live. The bound's pair is of a later term,
+pub live-beyond : {t a z b : ℕ} {last : Pair} → last ≡ record { term = term b; position = position b } → t < last .term → z < wordLimit → LiveAfter t a z b z
+live-beyond {t} {a} {z} {b} {last} q h l = record { same = λ x. go x (leb x (rank t z)) refl }
   where
-    go : (x : ℕ) (s : Bool) → leb x (rank t z) ≡ s → (ltb (rank t z) x && s) ≡ (ltb (rank u p) x && (leb (rank t a) x && s))
+    go : (x : ℕ) (s : Bool) → leb x (rank t z) ≡ s → (ltb (rank t z) x && s) ≡ (ltb b x && (leb (rank t a) x && s))
     go x true e =
         let m : x ≤ rank t z = leb-true x (rank t z) e in
-        rw (le-ltb (rank t z) x m, le-ltb (rank u p) x (omega arith))
+        rw (le-ltb (rank t z) x m, le-ltb b x (omega (arith, ap (λ p. p .term) q)))
     go x false e = rw (and-false, and-false, and-false)
 
+-- of the term and not below the range,
 keeps : (a b y : Bool) → (a ≡ true → b ≡ true) → (a && y) ≡ (a && (b && y))
 keeps true b y h = rw (h refl)
 keeps false b y h = refl
 
+pub live-bound :
+    {t a z b : ℕ} {last : Pair} → last ≡ record { term = term b; position = position b } → (eqb (last .term) t && leb a (last .position)) ≡ true →
+    LiveAfter t a z b (last .position)
+live-bound {t} {a} {z} {b} {last} q e =
+    let same : last .term ≡ t = eqb-true (last .term) t (and-left (eqb (last .term) t) (leb a (last .position)) e) in
+    let low : a ≤ last .position = leb-true a (last .position) (and-right (eqb (last .term) t) (leb a (last .position)) e) in
+    let whole : rank t (last .position) ≡ b = omega (arith, ap (λ p. p .term) q, ap (λ p. p .position) q) in
+    record { same = λ x. rw whole (keeps (ltb b x) (leb (rank t a) x) (leb x (rank t z)) (λ g. let m : b < x = ltb-true b x g in le-leb (rank t a) x (omega arith))) }
+
+-- or below the range.
 adds : (a b y : Bool) → (b ≡ true → a ≡ true) → (b && y) ≡ (a && (b && y))
 adds a true y h = rw (h refl)
 adds a false y h = sym (and-false a)
 
-pub live-beyond : {t a z u p : ℕ} → t < u → z < 4294967296 → LiveAfter t a z u p z
-live-beyond {t} {a} {z} {u} {p} h l = beyond t a z u p h l
-
-pub live-bound : {t a z u p : ℕ} → (eqb u t && leb a p) ≡ true → LiveAfter t a z u p p
-live-bound {t} {a} {z} {u} {p} e = go (eqb u t) (leb a p) refl refl e
-  where
-    go : (x y : Bool) → eqb u t ≡ x → leb a p ≡ y → (x && y) ≡ true → LiveAfter t a z u p p
-    go false y f g h = absurd (let z : _≡_ {A = ℕ} 0 1 = cc in omega arith)
-    go true false f g h = absurd (let z : _≡_ {A = ℕ} 0 1 = cc in omega arith)
-    go true true f g h =
-        let same : u ≡ t = eqb-true u t f in
-        let low : a ≤ p = leb-true a p g in
-        record { same = λ x. rw same (keeps (ltb (rank t p) x) (leb (rank t a) x) (leb x (rank t z)) (λ q. let m : rank t p < x = ltb-true (rank t p) x q in le-leb (rank t a) x (omega arith))) }
-
-pub live-from : {t a z u p : ℕ} → u ≤ t → (eqb u t && leb a p) ≡ false → p < 4294967296 → 1 ≤ a → LiveAfter t a z u p (a - 1)
-live-from {t} {a} {z} {u} {p} h e w o =
+pub live-from :
+    {t a z b : ℕ} {last : Pair} → last ≡ record { term = term b; position = position b } → last .term ≤ t →
+    (eqb (last .term) t && leb a (last .position)) ≡ false → 1 ≤ a → LiveAfter t a z b (a - 1)
+live-from {t} {a} {z} {b} {last} q h e o =
     record {
       same = λ x.
-          ap (λ b. b && leb x (rank t z)) (before x)
-          ∙ adds (ltb (rank u p) x) (leb (rank t a) x) (leb x (rank t z)) (λ q. let m : rank t a ≤ x = leb-true (rank t a) x q in lt-ltb (rank u p) x (omega (arith, under)));
+          ap (λ y. y && leb x (rank t z)) (before x)
+          ∙ adds (ltb b x) (leb (rank t a) x) (leb x (rank t z)) (λ g. let m : rank t a ≤ x = leb-true (rank t a) x g in lt-ltb b x (omega (arith, under)));
     }
   where
-    under : rank u p < rank t a
-    under = go (eqb u t) (leb a p) refl refl e
+    under : b < rank t a
+    under = go (eqb (last .term) t) (leb a (last .position)) refl refl e
       where
-        go : (x y : Bool) → eqb u t ≡ x → leb a p ≡ y → (x && y) ≡ false → rank u p < rank t a
-        go false y f g k = let n : (u ≡ t → ⊥) = eqb-false u t f in let l : u < t = omega arith in omega arith
-        go true false f g k = let n : p < a = leb-false a p g in let l : u ≡ t = eqb-true u t f in omega arith
+        whole : rank (last .term) (last .position) ≡ b
+        whole = omega (arith, ap (λ p. p .term) q, ap (λ p. p .position) q)
+
+        small : last .position < wordLimit
+        small = omega (arith, ap (λ p. p .position) q)
+
+        go : (x y : Bool) → eqb (last .term) t ≡ x → leb a (last .position) ≡ y → (x && y) ≡ false → b < rank t a
+        go false y f g k = let n : (last .term ≡ t → ⊥) = eqb-false (last .term) t f in let l : last .term < t = omega arith in omega (arith, whole, small)
+        go true false f g k = let n : last .position < a = leb-false a (last .position) g in let l : last .term ≡ t = eqb-true (last .term) t f in omega (arith, whole)
         go true true f g k = absurd (let z : _≡_ {A = ℕ} 0 1 = cc in omega arith)
 
     before : (x : ℕ) → ltb (rank t (a - 1)) x ≡ leb (rank t a) x

@@ -1,30 +1,34 @@
 -- The walk that a lookup makes: what is ahead of it is what is found, and its first run is the run view's.
-use Prim.Native.Nat.{ℕ, zero, suc, _+_, _*_, _-_, _≤_, _<_}
+use Prim.Native.Nat.{ℕ, zero, suc, _+_, _*_, _≤_, _<_}
 use native.Mathlib.Omega.{arith}
 use mathlib.Core.Path.{_≡_, refl, sym, ap, _∙_}
 use mathlib.Core.Bool.{Bool, true, false, _&&_, and-false}
 use mathlib.Core.List.{List, [], _∷_, _++_, map, map-append}
 use borrow.Author.Tests.{leb-true, lt-ltb, lt-leb, eq-eqb}
-use lib.ListN.{length, getD, length-append, length-map, length-take}
+use lib.ListN.{length, length-append, length-map, length-take}
 use lib.Dec.{ltb, leb}
-use Rattle.pair.specs.Rank.{rank, position, Words}
+use Rattle.pair.specs.Rank.{wordLimit, rank, position, Words}
 use Rattle.pair.specs.Rising.{keep, above, within}
 use Rattle.pair.proofs.Keep.{keep-append, keep-same, keep-keep, length-keep}
 use Rattle.block.specs.Block.{pairs, wordsBefore}
 use Rattle.block.specs.code.Wanted.{isWanted}
 use Rattle.block.proofs.Size.{block-size, length-size}
-use Rattle.card.specs.Layout.{blockSize, placeCount, oldStart, oldLength, newLength, boundary, entryWidth, placeAt, place, oldPlaces, newPlaces, pairsAt, live}
+use Rattle.card.specs.Layout.{blockSizeMost, blockSize, placeCount, oldStart, oldLength, newLength, boundary, placeAt, place, around, oldPlaces, newPlaces, pairsAt, live}
+use Rattle.card.specs.code.Configuration.{ConfigurationOf, placeOn}
+use Rattle.card.specs.code.Scan.{Ordered}
+use Rattle.card.specs.declared.layout.Configuration.{Configuration}
 use Rattle.card.proofs.Circle.{length-around}
 use Rattle.card.proofs.Facts.{Facts, facts}
 use Rattle.card.proofs.Live.{place-words}
+use Rattle.card.proofs.Ordered.{ordered-sound, around-on}
+use Rattle.lookup.specs.declared.walk.Stretch.{Stretch}
 use Rattle.lookup.specs.declared.walk.Walk.{Walk}
-use Rattle.lookup.specs.Found.{found, span, blocksRead, questionNumber}
+use Rattle.lookup.specs.Found.{found, blocksRead, questionNumber}
 use Rattle.lookup.specs.Views.{runAt, run, runStartAt, runStart}
-use Rattle.lookup.specs.code.Segment.{Segment, spanned, LiveAfter, Opened}
-use Rattle.card.specs.code.Scan.{Shaped}
-use Rattle.lookup.specs.code.Walk.{postings, runOf, runStartOf, placesOf, orElse, orElseAt, ahead, nextRun, nextStart}
+use Rattle.lookup.specs.code.Segment.{Segment, spanned, LiveAfter, LookupWalk}
+use Rattle.lookup.specs.code.Walk.{postings, atFirst, runOf, runStartOf, placesOf, ahead, nextRun, nextStart}
 use Rattle.lookup.proofs.Answers.{Asked, asked}
-use Rattle.lookup.proofs.Spanning.{Same, span-most, span-same, span-ready}
+use Rattle.lookup.proofs.Unread.{Same, span-same, span-ready}
 
 words-same : (f g : ℕ → Bool) → ((x : ℕ) → f x ≡ g x) → (ws : List ℕ) (t n : ℕ) → wordsBefore f ws t n ≡ wordsBefore g ws t n
 unfolding wordsBefore
@@ -52,43 +56,36 @@ module _ (c : List ℕ) (k a z : ℕ) (f : ℕ → Bool) (h : (x : ℕ) → f x 
       keep-same f (λ x. (leb a x && leb x z) && ltb k x) (λ x. h x ∙ turned (ltb k x) (leb a x) (leb x z)) xs
       ∙ sym (keep-keep (ltb k) (λ x. leb a x && leb x z) xs)
 
-  pub within-above : (xs : List ℕ) → keep f xs ≡ within a z (above k xs)
+  within-above : (xs : List ℕ) → keep f xs ≡ within a z (above k xs)
   unfolding above within
   within-above xs = keep-same f (λ x. ltb k x && (leb a x && leb x z)) h xs ∙ sym (keep-keep (λ x. leb a x && leb x z) (ltb k) xs)
 
-  pub run-at : (is rest : List ℕ) → runAt c k a z is rest ≡ orElse (runOf c f is) rest
-  unfolding runAt runOf orElse
-  run-at [] rest = refl
-  run-at (i ∷ is) rest = go (above k (within a z (pairs (place c i)))) (keep f (pairs (place c i))) (above-within (pairs (place c i))) (run-at is rest)
+  run-at : (is none : List ℕ) → runAt c k a z is none ≡ runOf c f is none
+  unfolding runAt atFirst
+  run-at [] none = refl
+  run-at (i ∷ is) none = rw (← above-within (pairs (place c i)), runAt) (go (keep f (pairs (place c i))) refl (run-at is none))
     where
       go :
-          (ks ls : List ℕ) → ls ≡ ks → runAt c k a z is rest ≡ orElse (runOf c f is) rest →
-          elim ks [ [] ↦ runAt c k a z is rest | x ∷ xs ↦ map position (x ∷ xs) ]
-          ≡ orElse (elim ls [ [] ↦ runOf c f is | x ∷ xs ↦ map position (x ∷ xs) ]) rest
-      go [] [] e ih = ih
-      go (x ∷ xs) (y ∷ ys) e ih = ap (map position) (sym e)
-      go [] (y ∷ ys) e ih = absurd (let z : _≡_ {A = ℕ} 0 1 = cc in omega arith)
-      go (x ∷ xs) [] e ih = absurd (let z : _≡_ {A = ℕ} 0 1 = cc in omega arith)
+          (ks : List ℕ) → keep f (pairs (place c i)) ≡ ks → runAt c k a z is none ≡ runOf c f is none →
+          _≡_ {A = List ℕ} (elim ks [ [] ↦ runAt c k a z is none | x ∷ xs ↦ map position (x ∷ xs) ])
+          (elim ks [ [] ↦ runOf c f is none | x ∷ xs ↦ map position (keep f (pairs (place c i))) ])
+      go [] e ih = ih
+      go (x ∷ xs) e ih = ap (map position) (sym e)
 
-  pub start-at : (is : List ℕ) (rest : ℕ) → runStartAt c k a z is rest ≡ orElseAt (runOf c f is) (runStartOf c f is) rest
-  unfolding runStartAt runOf runStartOf orElseAt
-  start-at [] rest = refl
-  start-at (i ∷ is) rest = go (above k (within a z (pairs (place c i)))) (keep f (pairs (place c i))) (above-within (pairs (place c i))) (start-at is rest)
+  start-at : (is : List ℕ) (none : ℕ) → runStartAt c k a z is none ≡ runStartOf c f is none
+  unfolding runStartAt atFirst
+  start-at [] none = refl
+  start-at (i ∷ is) none = rw (← above-within (pairs (place c i)), runStartAt) (go (keep f (pairs (place c i))) (start-at is none))
     where
-      g : ℕ → Bool
-      g y = ltb k y && leb a y && leb y z
-
       go :
-          (ks ls : List ℕ) → ls ≡ ks → runStartAt c k a z is rest ≡ orElseAt (runOf c f is) (runStartOf c f is) rest →
-          elim ks [ [] ↦ runStartAt c k a z is rest | x ∷ xs ↦ placeAt entryWidth c i + wordsBefore (λ y. ltb k y && leb a y && leb y z) (place c i) 0 0 ]
-          ≡ orElseAt (elim ls [ [] ↦ runOf c f is | x ∷ xs ↦ map position (x ∷ xs) ]) (elim ls [ [] ↦ runStartOf c f is | x ∷ xs ↦ placeAt entryWidth c i + wordsBefore f (place c i) 0 0 ]) rest
-      go [] [] e ih = ih
-      go (x ∷ xs) (y ∷ ys) e ih = ap (λ n. placeAt entryWidth c i + n) (words-same (λ y. ltb k y && leb a y && leb y z) f (λ y. sym (h y ∙ joined (ltb k y) (leb a y) (leb y z))) (place c i) 0 0)
-      go [] (y ∷ ys) e ih = absurd (let z : _≡_ {A = ℕ} 0 1 = cc in omega arith)
-      go (x ∷ xs) [] e ih = absurd (let z : _≡_ {A = ℕ} 0 1 = cc in omega arith)
+          (ks : List ℕ) → runStartAt c k a z is none ≡ runStartOf c f is none →
+          _≡_ {A = ℕ} (elim ks [ [] ↦ runStartAt c k a z is none | x ∷ xs ↦ placeAt c i + wordsBefore (λ y. ltb k y && leb a y && leb y z) (place c i) 0 0 ])
+          (elim ks [ [] ↦ runStartOf c f is none | x ∷ xs ↦ placeAt c i + wordsBefore f (place c i) 0 0 ])
+      go [] ih = ih
+      go (x ∷ xs) ih = ap (λ n. placeAt c i + n) (words-same (λ y. ltb k y && leb a y && leb y z) f (λ y. sym (h y ∙ joined (ltb k y) (leb a y) (leb y z))) (place c i) 0 0)
 
--- what is found is short: every block has at most 1,024 pairs
-length-pairsAt : (c is : List ℕ) → Words c → blockSize c ≤ 1024 → length (pairsAt c is) ≤ 1024 * length is
+-- what is found is short: every block has at most so many pairs
+length-pairsAt : (c is : List ℕ) → Words c → blockSize c ≤ blockSizeMost → length (pairsAt c is) ≤ blockSizeMost * length is
 unfolding pairsAt
 length-pairsAt c [] w h = omega arith
 length-pairsAt c (i ∷ is) w h =
@@ -96,7 +93,7 @@ length-pairsAt c (i ∷ is) w h =
     let size : length (place c i) ≤ blockSize c = unfold place in rw length-take (omega arith) in
     rw length-append (omega (arith, length-pairsAt c is w h))
 
-pub few-found : (c : List ℕ) (t a z : ℕ) → Words c → Facts c → length (found c t a z) < 4294967296
+few-found : (c : List ℕ) (t a z : ℕ) → Words c → Facts c → length (found c t a z) < wordLimit
 unfolding found live within above
 few-found c t a z w g =
     rw (length-map)
@@ -113,82 +110,63 @@ few-found c t a z w g =
       g .countHigh,
     ))
 
-pub question-facts : (c : List ℕ) (t a z : ℕ) → questionNumber c t a z ≡ 0 → Facts c
-question-facts c t a z e = facts c (asked c t a z e .sound)
-
-pub shaped : (c : List ℕ) → Facts c → Shaped c
-shaped c g = record { sizeHigh = g .sizeHigh; countLow = g .countLow; countHigh = g .countHigh; long = g .long }
-
-pub old-segment : (c : List ℕ) → Facts c → Segment c (oldStart c) (oldLength c)
-old-segment c g =
-    record { shape = shaped c g; near = omega (arith, g .start, g .countHigh); few = omega (arith, g .room, g .countHigh); sound = g .oldSound; rises = g .oldRising }
-
-pub new-segment : (c : List ℕ) → Facts c → Segment c (oldStart c + oldLength c) (newLength c)
-new-segment c g =
-    record { shape = shaped c g; near = omega (arith, g .start, g .room, g .countHigh); few = omega (arith, g .room, g .countHigh); sound = g .newSound; rises = g .newRising }
-
 -- a pair below the range is not wanted, nor one above it
-module _ {t a z u p r : ℕ} (l : LiveAfter t a z u p r) where
-  pub not-below : (x : ℕ) → x < rank t a → isWanted t r z x ≡ false
-  not-below x h = l .same x ∙ rw (lt-leb (rank t a) x h) (and-false (ltb (rank u p) x))
+module _ {t a z b r : ℕ} (l : LiveAfter t a z b r) where
+  not-below : (x : ℕ) → x < rank t a → isWanted t r z x ≡ false
+  not-below x h = l .same x ∙ rw (lt-leb (rank t a) x h) (and-false (ltb b x))
 
-  pub not-above : (x : ℕ) → rank t z < x → isWanted t r z x ≡ false
-  not-above x h = l .same x ∙ rw (lt-leb x (rank t z) h, and-false (leb (rank t a) x)) (and-false (ltb (rank u p) x))
+  not-above : (x : ℕ) → rank t z < x → isWanted t r z x ≡ false
+  not-above x h = l .same x ∙ rw (lt-leb x (rank t z) h, and-false (leb (rank t a) x)) (and-false (ltb b x))
 
--- where there is no run, it starts at 0
-no-start : (c : List ℕ) (f : ℕ → Bool) (is : List ℕ) → runOf c f is ≡ [] → runStartOf c f is ≡ 0
-unfolding runOf runStartOf
-no-start c f [] e = refl
-no-start c f (i ∷ is) e = go (keep f (pairs (place c i))) e (no-start c f is)
-  where
-    here : ℕ
-    here = placeAt entryWidth c i + wordsBefore f (place c i) 0 0
+-- The segments as the code names them, by the configuration in hand.
+module _ {c : List ℕ} {k : Configuration} (g : Facts c) (i : ConfigurationOf c k) where
+  abbrev o : Ordered c k
+  o = ordered-sound g i
 
-    go :
-        (ks : List ℕ) → _≡_ {A = List ℕ} (elim ks [ [] ↦ runOf c f is | x ∷ xs ↦ map position (x ∷ xs) ]) [] → (runOf c f is ≡ [] → runStartOf c f is ≡ 0) →
-        _≡_ {A = ℕ} (elim ks [ [] ↦ runStartOf c f is | x ∷ xs ↦ here ]) 0
-    go [] e ih = ih e
-    go (x ∷ xs) e ih = absurd (let z : suc (length (map position xs)) ≡ 0 = ap length e in omega arith)
+  abbrev newStart : ℕ
+  newStart = placeOn (k .places) (k .«old_start») (k .«old_length»)
 
-at-nil : (xs : List ℕ) (i : ℕ) → (xs ≡ [] → i ≡ 0) → orElseAt xs i 0 ≡ i
-unfolding orElseAt
-at-nil [] i h = sym (h refl)
-at-nil (x ∷ xs) i h = refl
+  pub new-places : around (placeCount c) newStart (k .«new_length») ≡ newPlaces c
+  new-places = rw (o .ofStart, o .ofOld, o .ofNew) (around-on o (oldStart c) (oldLength c) (newLength c))
 
-or-nil : (xs : List ℕ) → orElse xs [] ≡ xs
-unfolding orElse
-or-nil [] = refl
-or-nil (x ∷ xs) = refl
+  pub old-places : around (placeCount c) (k .«old_start») (k .«old_length») ≡ oldPlaces c
+  old-places = rw (o .ofStart, o .ofOld)
 
-module _ (c : List ℕ) (t a z r q : ℕ) (w : Words c) (e : questionNumber c t a z ≡ 0) (l : LiveAfter t a z 0 0 r) (m : LiveAfter t a z (getD c 6 0) (getD c 7 0) q) where
+  pub new-segment : Segment c k newStart (k .«new_length»)
+  new-segment = record { ordered = o; sound = rw new-places (g .newSound); rises = rw new-places (g .newRising) }
+
+  pub old-segment : Segment c k (k .«old_start») (k .«old_length»)
+  old-segment = record { ordered = o; sound = rw old-places (g .oldSound); rises = rw old-places (g .oldRising) }
+
+module _ (c : List ℕ) (k : Configuration) (t a z r q : ℕ) (w : Words c) (e : questionNumber c t a z ≡ 0) (i : ConfigurationOf c k) (l : LiveAfter t a z 0 r) (m : LiveAfter t a z (boundary c) q) where
+  abbrev newSpan : Stretch
+  newSpan = spanned c (placeOn (k .places) (k .«old_start») (k .«old_length»)) (k .«new_length») t a z r
+
+  abbrev oldSpan : Stretch
+  oldSpan = spanned c (k .«old_start») (k .«old_length») t a z q
+
   abbrev walk : Walk
-  walk = record { term = t; to = z; new = spanned c (oldStart c + oldLength c) (newLength c) t a z r; old = spanned c (oldStart c) (oldLength c) t a z q }
+  walk = record { term = t; to = z; new = newSpan; old = oldSpan }
+
+  b : Asked c t a z
+  b = asked c t a z e
 
   g : Facts c
-  g = facts c (asked c t a z e .sound)
+  g = facts c (b .sound)
 
-  k : Asked c t a z
-  k = asked c t a z e
+  new : Same c (isWanted t r z) (newPlaces c) (placesOf c newSpan)
+  new = rw (new-places g i) at (span-same c k _ (k .«new_length») t a z r (new-segment g i) (b .range) (isWanted t r z) (not-below l) (not-above l))
 
-  f : ℕ → Bool
-  f = isWanted t r z
-
-  o : ℕ → Bool
-  o = isWanted t q z
-
-  new : Same c (isWanted t r z) (newPlaces c) (placesOf c (spanned c (oldStart c + oldLength c) (newLength c) t a z r))
-  new = span-same c (oldStart c + oldLength c) (newLength c) t a z r (new-segment c g) (k .range) (isWanted t r z) (not-below l) (not-above l)
-
-  old : Same c (isWanted t q z) (oldPlaces c) (placesOf c (spanned c (oldStart c) (oldLength c) t a z q))
-  old = span-same c (oldStart c) (oldLength c) t a z q (old-segment c g) (k .range) (isWanted t q z) (not-below m) (not-above m)
+  old : Same c (isWanted t q z) (oldPlaces c) (placesOf c oldSpan)
+  old = rw (old-places g i) at (span-same c k _ (k .«old_length») t a z q (old-segment g i) (b .range) (isWanted t q z) (not-below m) (not-above m))
 
   -- every new pair from a to z is above 0
   plain : (x : ℕ) → isWanted t r z x ≡ (leb (rank t a) x && leb x (rank t z))
   plain x = l .same x ∙ go (leb (rank t a) x) refl
     where
-      go : (s : Bool) → leb (rank t a) x ≡ s → (ltb (rank 0 0) x && (s && leb x (rank t z))) ≡ (s && leb x (rank t z))
-      go true y = let b : rank t a ≤ x = leb-true (rank t a) x y in rw (lt-ltb (rank 0 0) x (omega (arith, k .fromLow)))
-      go false y = and-false (ltb (rank 0 0) x)
+      go : (s : Bool) → leb (rank t a) x ≡ s → (ltb 0 x && (s && leb x (rank t z))) ≡ (s && leb x (rank t z))
+      go true y = let n : rank t a ≤ x = leb-true (rank t a) x y in rw (lt-ltb 0 x (omega (arith, b .fromLow)))
+      go false y = and-false (ltb 0 x)
 
   is-found : ahead c walk ≡ found c t a z
   unfolding found live postings within spanned
@@ -201,33 +179,32 @@ module _ (c : List ℕ) (t a z r q : ℕ) (w : Words c) (e : questionNumber c t 
   is-run : nextRun c walk ≡ run c t a z
   unfolding run spanned
   is-run =
+      let F = isWanted t r z in
+      let G = isWanted t q z in
       rw (eq-eqb (questionNumber c t a z) 0 e, ← new .run, ← old .run)
-      (sym (run-at c 0 (rank t a) (rank t z) (isWanted t r z) (l .same) (newPlaces c) _
-      ∙ ap (orElse (runOf c (isWanted t r z) (newPlaces c))) (run-at c (boundary c) (rank t a) (rank t z) (isWanted t q z) (m .same) (oldPlaces c) [] ∙ or-nil (runOf c (isWanted t q z) (oldPlaces c)))))
+      (sym (run-at c 0 (rank t a) (rank t z) F (l .same) (newPlaces c) _
+      ∙ ap (runOf c F (newPlaces c)) (run-at c (boundary c) (rank t a) (rank t z) G (m .same) (oldPlaces c) [])))
 
   is-start : nextStart c walk ≡ runStart c t a z
   unfolding runStart spanned
   is-start =
       let F = isWanted t r z in
       let G = isWanted t q z in
-      rw (eq-eqb (questionNumber c t a z) 0 e, ← new .run, ← new .start, ← old .start)
-      (sym (start-at c 0 (rank t a) (rank t z) F (l .same) (newPlaces c) (runStartAt c (boundary c) (rank t a) (rank t z) (oldPlaces c) 0)
-      ∙ ap (orElseAt (runOf c F (newPlaces c)) (runStartOf c F (newPlaces c)))
-      (start-at c (boundary c) (rank t a) (rank t z) G (m .same) (oldPlaces c) 0 ∙ at-nil (runOf c G (oldPlaces c)) (runStartOf c G (oldPlaces c)) (no-start c G (oldPlaces c)))))
+      rw (eq-eqb (questionNumber c t a z) 0 e, ← new .start, ← old .start)
+      (sym (start-at c 0 (rank t a) (rank t z) F (l .same) (newPlaces c) _
+      ∙ ap (runStartOf c F (newPlaces c)) (start-at c (boundary c) (rank t a) (rank t z) G (m .same) (oldPlaces c) 0)))
 
-  pub opened-walk : Opened c t a z walk
+  pub opened-walk : LookupWalk c t a z walk
   opened-walk =
       record {
         ready =
             record {
-              new = span-ready c (oldStart c + oldLength c) (newLength c) t a z r (new-segment c g) (k .range);
-              old = span-ready c (oldStart c) (oldLength c) t a z q (old-segment c g) (k .range);
+              new = span-ready c k _ (k .«new_length») t a z r (new-segment g i) (b .range);
+              old = span-ready c k _ (k .«old_length») t a z q (old-segment g i) (b .range);
             };
         found = is-found;
         few = rw is-found (few-found c t a z w g);
-        blocks = unfold spanned blocksRead in refl;
-        most = unfold spanned span in
-            omega (arith, span-most c (oldStart c + oldLength c) (newLength c) t a z r (new-segment c g) (k .range), span-most c (oldStart c) (oldLength c) t a z q (old-segment c g) (k .range), g .room, g .countHigh);
+        blocks = unfold spanned blocksRead in rw (new-places g i, old-places g i);
         run = is-run;
         start = is-start;
       }

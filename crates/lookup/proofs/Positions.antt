@@ -6,7 +6,7 @@ use mathlib.Core.List.{List, [], _∷_, map}
 use native.Mathlib.Omega.{arith}
 use lib.Dec.{leb}
 use borrow.Author.Tests.{leb-true}
-use Rattle.pair.specs.Rank.{rank, position}
+use Rattle.pair.specs.Rank.{wordLimit, rank, position}
 use Rattle.pair.specs.Rising.{Each, keep, within, risingFrom}
 use Rattle.pair.proofs.Tests.{and-left, and-right}
 use Rattle.pair.proofs.Each.{Each-kept, Each-imply}
@@ -31,7 +31,7 @@ rising-above-all (x ∷ xs) j k r e = rising-cons x xs k (e .0) (rising-tail x x
 
 -- Among pairs of one term the positions rise with the pairs.
 positions-rise :
-    (t z : ℕ) → z < 4294967296 → (xs : List ℕ) (p : ℕ) → risingFrom (rank t p) xs ≡ true → Each (λ x. x ≤ rank t z) xs → risingFrom p (map position xs) ≡ true
+    (t z : ℕ) → z < wordLimit → (xs : List ℕ) (p : ℕ) → risingFrom (rank t p) xs ≡ true → Each (λ x. x ≤ rank t z) xs → risingFrom p (map position xs) ≡ true
 unfolding risingFrom
 positions-rise t z hz [] p r e = refl
 positions-rise t z hz (x ∷ xs) p r e =
@@ -43,7 +43,7 @@ positions-rise t z hz (x ∷ xs) p r e =
 
 -- The positions of a term from a to z rise.
 pub range-rises :
-    (t a z : ℕ) (s : List ℕ) → 1 ≤ a → z < 4294967296 → risingFrom 0 s ≡ true →
+    (t a z : ℕ) (s : List ℕ) → 1 ≤ a → z < wordLimit → risingFrom 0 s ≡ true →
     risingFrom 0 (map position (within (rank t a) (rank t z) s)) ≡ true
 unfolding within
 range-rises t a z s low high r =

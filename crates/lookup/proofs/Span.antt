@@ -9,7 +9,7 @@ use lib.Dec.{ltb, leb, eqb}
 use borrow.Author.Tests.{ltb-true, lt-ltb, leb-false, le-leb, lt-leb, eqb-true}
 use Rattle.pair.specs.Rank.{rank}
 use Rattle.pair.specs.Rising.{risingFrom, last, any}
-use Rattle.pair.proofs.Rising.{any-last, rising-head, rising-tail, rising-last, rising-first, rising-second}
+use Rattle.pair.proofs.Rising.{any-last, rising-cons, rising-head, rising-tail, rising-last, rising-first, rising-second}
 use Rattle.pair.proofs.Tests.{and-left, and-right}
 use Rattle.block.specs.Block.{pairs, formed}
 use Rattle.block.proofs.Reading.{formed-some}
@@ -23,6 +23,10 @@ unfolding last
 first-between [] j l r = absurd (omega arith)
 first-between (k ∷ ks) j l r = (rising-head k ks j r, rising-last ks k (rising-tail k ks j r))
 
+head-rising : (ks : List ℕ) (j : ℕ) → 0 < length ks → risingFrom j ks ≡ true → risingFrom (getD ks 0 0 - 1) ks ≡ true
+head-rising [] j l r = absurd (omega arith)
+head-rising (k ∷ ks) j l r = rising-cons k ks (k - 1) (omega (arith, rising-head k ks j r)) (rising-tail k ks j r)
+
 any-first : (f : ℕ → Bool) (ks : List ℕ) → 0 < length ks → f (getD ks 0 0) ≡ true → any f ks ≡ true
 unfolding any
 any-first f [] l h = absurd (omega arith)
@@ -33,6 +37,7 @@ pub record First (c : List ℕ) (j i : ℕ) (is : List ℕ) : Type 0 where
   pub low : j < firstPair c i
   pub high : firstPair c i ≤ last j (pairs (place c i))
   pub rises : risingFrom j (pairs (place c i)) ≡ true
+  pub from : risingFrom (firstPair c i - 1) (pairs (place c i)) ≡ true
   pub behind : risingFrom (last j (pairs (place c i))) (pairsAt c is) ≡ true
   pub sound : blocksSound c is ≡ true
   pub holds : (f : ℕ → Bool) → f (firstPair c i) ≡ true → any f (pairs (place c i)) ≡ true
@@ -50,6 +55,7 @@ first c j i is s r =
       low = rw entry (between .0);
       high = rw entry (between .1);
       rises = here;
+      from = rw entry (head-rising ks j some here);
       behind = rising-second ks (pairsAt c is) j r;
       sound = and-right (formed (place c i) && eqb (firstPair c i) (getD ks 0 0)) _ s;
       holds = λ f h. any-first f ks some (rw entry at h);

@@ -8,7 +8,7 @@ use lib.Dec.{ltb, leb, eqb}
 use Rattle.pair.specs.Rank.{rank, position}
 use Rattle.pair.specs.Rising.{above, within}
 use Rattle.block.specs.Block.{pairs, wordsBefore}
-use Rattle.card.specs.Layout.{boundary, entryWidth, placeAt, place, oldPlaces, newPlaces}
+use Rattle.card.specs.Layout.{boundary, placeAt, place, oldPlaces, newPlaces}
 use Rattle.lookup.specs.Found.{questionNumber}
 
 -- the run view's contents: the wanted live positions of the first of the places that has any
@@ -29,7 +29,7 @@ runStartAt c k a z [] rest = rest
 runStartAt c k a z (i ∷ is) rest =
     elim (above k (within a z (pairs (place c i)))) [
       | [] ↦ runStartAt c k a z is rest
-      | x ∷ xs ↦ placeAt entryWidth c i + wordsBefore (λ y. ltb k y && leb a y && leb y z) (place c i) 0 0
+      | x ∷ xs ↦ placeAt c i + wordsBefore (λ y. ltb k y && leb a y && leb y z) (place c i) 0 0
     ]
 
 unfoldable pub runStart : List ℕ → ℕ → ℕ → ℕ → ℕ

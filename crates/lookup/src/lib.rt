@@ -26,8 +26,8 @@ pub enum LookupAnswer {
     Found { count: u32, blocks: u32 },
 }
 
-// The number of a question that is refused, 0 where it is not: the run view's, and the lookup's but for its answer words.
-pub fn run_view_number(card: &[u32], term: u32, from: u32, to: u32) -> u32
+// The number of a question that is refused, 0 where it is not.
+pub(crate) fn question_number(card: &[u32], term: u32, from: u32, to: u32) -> u32
     ensures { λ r. ⌜ r ≡ questionNumber (now (card .entry)) term from to ⌝ }
 {
     let number = card::judge(card);
@@ -44,7 +44,7 @@ pub fn run_view_number(card: &[u32], term: u32, from: u32, to: u32) -> u32
 pub fn lookup(card: &[u32], term: u32, from: u32, to: u32, answer: &mut [u32]) -> LookupAnswer
     ensures { λ r. ⌜ (r ≡ answerOf (lookup (now (card .entry)) term from to (now (answer .entry)))) × (now (answer .exit) ≡ lookup (now (card .entry)) term from to (now (answer .entry)) .answer) ⌝ }
 {
-    let number = run_view_number(card, term, from, to);
+    let number = question_number(card, term, from, to);
     if number != 0 {
         return LookupAnswer::Refused(number);
     }
@@ -56,12 +56,11 @@ pub fn lookup(card: &[u32], term: u32, from: u32, to: u32, answer: &mut [u32]) -
     copy_ahead(card, walk, answer);
     let new = walk.new;
     let old = walk.old;
-    let blocks = new.blocks + old.blocks;
     let found = count as u32;
-    let read = blocks as u32;
+    let blocks = new.blocks as u32 + old.blocks as u32;
     LookupAnswer::Found {
         count: found,
-        blocks: read,
+        blocks,
     }
 }
 
@@ -85,7 +84,7 @@ pub struct RunPart {
 pub fn run_part(card: &[u32], term: u32, from: u32, to: u32) -> RunPart
     ensures { λ r. ⌜ Viewed (now (card .entry)) term from to (r .number) (r .start) (r .len) ⌝ }
 {
-    let number = run_view_number(card, term, from, to);
+    let number = question_number(card, term, from, to);
     if number != 0 {
         return RunPart {
             number,
@@ -99,7 +98,14 @@ pub fn run_part(card: &[u32], term: u32, from: u32, to: u32) -> RunPart
     RunPart { number, start, len }
 }
 
-// The same as a part of the card itself.
+// The number of a run view.
+pub fn run_view_number(card: &[u32], term: u32, from: u32, to: u32) -> u32
+    ensures { λ r. ⌜ r ≡ questionNumber (now (card .entry)) term from to ⌝ }
+{
+    question_number(card, term, from, to)
+}
+
+// The run view as a part of the card itself.
 pub fn run_view(card: &[u32], term: u32, from: u32, to: u32) -> &[u32]
     ensures { λ r. ⌜ now r ≡ run (now (card .entry)) term from to ⌝ }
     ensures { λ r. ⌜ r .ptr ≡ (card .entry .ptr .0, runStart (now (card .entry)) term from to * 4 + card .entry .ptr .1) ⌝ }

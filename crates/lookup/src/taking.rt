@@ -3,6 +3,7 @@ ghost use mathlib.Core.Path.{_≡_};
 ghost use Prim.Native.Nat.{_+_, _<_, _≤_};
 ghost use lib.ListN.{length, take, drop};
 ghost use lib.Seq.{sets};
+ghost use Rattle.pair.specs.Rank.{wordLimit};
 ghost use Rattle.lookup.specs.code.Walk.{ahead, ReadyWalk};
 use crate::walk::Walk;
 use crate::walk::next_run;
@@ -10,7 +11,7 @@ use crate::walk::next_run;
 // How many wanted positions are ahead.
 pub(crate) fn count_ahead(card: &[u32], walk: Walk) -> usize
     requires { ⌜ ReadyWalk (now card) walk ⌝ }
-    requires { ⌜ length (ahead (now card) walk) < 4294967296 ⌝ }
+    requires { ⌜ length (ahead (now card) walk) < wordLimit ⌝ }
     ensures { λ r. ⌜ r ≡ length (ahead (now (card .entry)) walk) ⌝ }
 {
     let mut w = walk;

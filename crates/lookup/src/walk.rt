@@ -1,19 +1,15 @@
 // A walk over the blocks that a lookup reads: it finds one run of wanted positions after another, each a part of the card.
-ghost use mathlib.Core.Path.{_≡_};
-ghost use Prim.Native.Nat.{_<_};
-ghost use Rattle.card.specs.Layout.{placeCount};
-ghost use Rattle.card.specs.code.Scan.{Shaped};
-ghost use Rattle.lookup.specs.code.Walk.{isShaped, PlacePart, Sought, Started, Next};
+ghost use Rattle.lookup.specs.code.Walk.{PlacePart, Sought, WalkStarted, Next};
 use crate::map::opened;
-use crate::run_view_number;
+use crate::question_number;
 use block::wanted::Part;
-use card::CONFIGURATION_WORDS;
-use card::ENTRY_WIDTH;
+use card::layout;
+use card::layout::Configuration;
 
 // Blocks of one segment: so many places from one on, around the circle. Wanted of them are positions above after.
 pub struct Stretch {
-    pub(crate) place: usize,
-    pub(crate) blocks: usize,
+    pub(crate) place: u16,
+    pub(crate) blocks: u16,
     pub(crate) after: u32,
 }
 
@@ -53,9 +49,9 @@ const NO_BLOCKS: Stretch = Stretch {
 
 // Judges the card and the question, and opens its walk. Refused, the walk has no blocks.
 pub fn start_walk(card: &[u32], term: u32, from: u32, to: u32) -> WalkStart
-    ensures { λ r. ⌜ Started (now (card .entry)) term from to r ⌝ }
+    ensures { λ r. ⌜ WalkStarted (now (card .entry)) term from to r ⌝ }
 {
-    let number = run_view_number(card, term, from, to);
+    let number = question_number(card, term, from, to);
     if number != 0 {
         return WalkStart {
             number,
@@ -71,37 +67,18 @@ pub fn start_walk(card: &[u32], term: u32, from: u32, to: u32) -> WalkStart
     WalkStart { number, walk }
 }
 
-// Whether the block size and the count of places are within their limits and the card has the length that they give.
-fn is_shaped(card: &[u32]) -> bool
-    ensures { λ r. ⌜ r ≡ isShaped (now (card .entry)) ⌝ }
-{
-    if card.len() < CONFIGURATION_WORDS {
-        return false;
-    }
-    let size = card[1];
-    let places = card[2];
-    let fits = (size <= 1024) & (2 <= places) & (places <= 1024);
-    if !fits {
-        return false;
-    }
-    card.len()
-        == CONFIGURATION_WORDS + ENTRY_WIDTH * places as usize + places as usize * size as usize
-}
-
 // The wanted positions of the block at a place, as a part of the card.
-fn place_part(card: &[u32], place: usize, term: u32, after: u32, to: u32) -> Part
-    requires { ⌜ Shaped (now card) ⌝ }
-    requires { ⌜ place < placeCount (now card) ⌝ }
+fn place_part(card: &[u32], place: u16, term: u32, after: u32, to: u32) -> Part
     ensures { λ r. ⌜ PlacePart (now (card .entry)) place term after to r ⌝ }
 {
-    let size = card[1] as usize;
-    let start = CONFIGURATION_WORDS + ENTRY_WIDTH * card[2] as usize + place * size;
-    let end = start + size;
-    let found = block::wanted::block_part(&card[start..end], term, after, to);
+    let found = block::wanted::block_part(layout::place(card, place), term, after, to);
     let before = found.start;
     let len = found.len;
+    if len == 0 {
+        return Part { start: 0, len: 0 };
+    }
     Part {
-        start: start + before,
+        start: layout::place_start(card, place) + before,
         len,
     }
 }
@@ -110,37 +87,15 @@ fn place_part(card: &[u32], place: usize, term: u32, after: u32, to: u32) -> Par
 fn seek(card: &[u32], term: u32, to: u32, s: Stretch) -> StretchRun
     ensures { λ r. ⌜ Sought (now (card .entry)) term to s r ⌝ }
 {
+    let k = Configuration::of(card);
     let after = s.after;
     let mut place = s.place;
     let mut blocks = s.blocks;
-    if !is_shaped(card) {
-        return StretchRun {
-            start: 0,
-            len: 0,
-            rest: Stretch {
-                place,
-                blocks: 0,
-                after,
-            },
-        };
-    }
-    let places = card[2] as usize;
     while 0 < blocks {
-        if places <= place {
-            return StretchRun {
-                start: 0,
-                len: 0,
-                rest: Stretch {
-                    place,
-                    blocks: 0,
-                    after,
-                },
-            };
-        }
         let part = place_part(card, place, term, after, to);
         let start = part.start;
         let len = part.len;
-        place = (place + 1) % places;
+        place = k.place_on(place, 1);
         blocks -= 1;
         if 0 < len {
             return StretchRun {

@@ -13,7 +13,7 @@ use Rattle.reader.specs.declared.Yield.the-variants.{Posting, End}
 use Rattle.reader.specs.declared.cursor.Cursor.{Cursor}
 use Rattle.reader.specs.declared.cursor.Step.{Step}
 use Rattle.reader.specs.Reader.{allYielded, posting, ended, yielded, read, yieldOf, ReadOff}
-use Rattle.reader.specs.code.Cursor.{Stands, Stepped}
+use Rattle.reader.specs.code.Cursor.{CursorAfter, CursorStep}
 
 -- where a posting is yielded, it is the next of them all; where the end is, there are no more
 yields-there : (ys : List ℕ) (n p : ℕ) → posting p ≡ getD (map posting ys) n ended → (n < length ys) × (p ≡ getD ys n 0)
@@ -37,26 +37,26 @@ read-refused c t a z answer e = rw (e, take-nil (length answer))
 pub record Taking (c : List ℕ) (t a z : ℕ) (l : List ℕ) (k : Cursor) (now : List ℕ) (i : ℕ) : Type 0 where
   pub room : i ≤ length l
   pub some : i ≤ length (allYielded c t a z)
-  pub stands : Stands c t a z i k
+  pub after : CursorAfter c t a z i k
   pub same : now ≡ sets l 0 (take i (allYielded c t a z))
 
-pub taking-start : {c l : List ℕ} {t a z : ℕ} {k : Cursor} → Stands c t a z 0 k → Taking c t a z l k l 0
-taking-start s = record { room = zero-le; some = zero-le; stands = s; same = refl }
+pub taking-start : {c l : List ℕ} {t a z : ℕ} {k : Cursor} → CursorAfter c t a z 0 k → Taking c t a z l k l 0
+taking-start s = record { room = zero-le; some = zero-le; after = s; same = refl }
 
 pub taking-length : {c l now : List ℕ} {t a z i : ℕ} {k : Cursor} → Taking c t a z l k now i → length now ≡ length l
 taking-length {c} {l} {now} {t} {a} {z} {i} g = ap length (g .same) ∙ length-sets l 0 (take i (allYielded c t a z))
 
 pub taking-turn :
-    {c l now : List ℕ} {t a z i p : ℕ} {k : Cursor} {r : Step} → Taking c t a z l k now i → i < length now → Stepped c k r →
+    {c l now : List ℕ} {t a z i p : ℕ} {k : Cursor} {r : Step} → Taking c t a z l k now i → i < length now → CursorStep c k r →
     r .yielded ≡ Posting p → Taking c t a z l (r .cursor) (set now i p) (i + 1)
 unfolding yielded
 taking-turn {c} {l} {now} {t} {a} {z} {i} {p} g h s e =
     let all = allYielded c t a z in
-    let there = yields-there all i p (sym (ap yieldOf e) ∙ s .yields t a z i (g .stands)) in
+    let there = yields-there all i p (sym (ap yieldOf e) ∙ s .yields t a z i (g .after)) in
     record {
       room = omega (arith, taking-length g);
       some = omega (arith, there .0);
-      stands = s .stands t a z i (g .stands);
+      after = s .after t a z i (g .after);
       same = let e : i ≡ 0 + i = omega arith in rw (g .same, there .1) (ap (λ j. set (sets l 0 (take i all)) j (getD all i 0)) e ∙ sets-next all l 0 i (there .0));
     }
 
@@ -71,12 +71,12 @@ taking-full {c} {l} {now} {t} {a} {z} {i} g h m =
     }
 
 pub taking-end :
-    {c l now : List ℕ} {t a z i m : ℕ} {k : Cursor} {r : Step} → Taking c t a z l k now i → Stepped c k r → r .yielded ≡ End → m ≡ questionNumber c t a z →
+    {c l now : List ℕ} {t a z i m : ℕ} {k : Cursor} {r : Step} → Taking c t a z l k now i → CursorStep c k r → r .yielded ≡ End → m ≡ questionNumber c t a z →
     ReadOff m i now (read c t a z l)
 unfolding read yielded
 taking-end {c} {l} {now} {t} {a} {z} {i} g s e m =
     let all = allYielded c t a z in
-    let past = yields-past all i (sym (ap yieldOf e) ∙ s .yields t a z i (g .stands)) in
+    let past = yields-past all i (sym (ap yieldOf e) ∙ s .yields t a z i (g .after)) in
     record {
       ofNumber = m;
       ofCount = rw length-take (omega (arith, g .some, g .room));

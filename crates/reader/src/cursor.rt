@@ -2,7 +2,7 @@
 ghost use mathlib.Core.Path.{_≡_};
 ghost use Prim.Native.Nat.{ℕ};
 ghost use Rattle.lookup.specs.Found.{questionNumber};
-ghost use Rattle.reader.specs.code.Cursor.{Stands, Stepped, Later};
+ghost use Rattle.reader.specs.code.Cursor.{CursorAfter, CursorStep, Later};
 use crate::Yield;
 use lookup::walk::Walk;
 use lookup::walk::next_run;
@@ -29,7 +29,7 @@ pub(crate) struct Step {
 
 // Judges the card and the question. Refused, nothing is before the cursor.
 pub(crate) fn open_at(card: &[u32], term: u32, from: u32, to: u32) -> Opening
-    ensures { λ r. ⌜ (r .number ≡ questionNumber (now (card .entry)) term from to) × Stands (now (card .entry)) term from to 0 (r .cursor) ⌝ }
+    ensures { λ r. ⌜ (r .number ≡ questionNumber (now (card .entry)) term from to) × CursorAfter (now (card .entry)) term from to 0 (r .cursor) ⌝ }
 {
     let start = start_walk(card, term, from, to);
     let number = start.number;
@@ -46,7 +46,7 @@ pub(crate) fn open_at(card: &[u32], term: u32, from: u32, to: u32) -> Opening
 
 // The step where no posting of a run is left: on to the next run.
 fn step_over(card: &[u32], walk: Walk) -> Step
-    ensures { λ r. ⌜ ((at : ℕ) → Stepped (now (card .entry)) (record { at = at; left = 0; walk = walk }) r) ⌝ }
+    ensures { λ r. ⌜ ((at : ℕ) → CursorStep (now (card .entry)) (record { at = at; left = 0; walk = walk }) r) ⌝ }
 {
     let run = next_run(card, walk);
     let start = run.start;
@@ -74,7 +74,7 @@ fn step_over(card: &[u32], walk: Walk) -> Step
 
 // One posting, or the end; nothing is judged.
 pub(crate) fn step_at(card: &[u32], cursor: Cursor) -> Step
-    ensures { λ r. ⌜ Stepped (now (card .entry)) cursor r ⌝ }
+    ensures { λ r. ⌜ CursorStep (now (card .entry)) cursor r ⌝ }
 {
     let at = cursor.at;
     let left = cursor.left;

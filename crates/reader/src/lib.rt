@@ -1,7 +1,7 @@
 // The posting reader: the card beside a place in it.
 ghost use mathlib.Core.Path.{_≡_};
 ghost use Rattle.lookup.specs.Found.{questionNumber};
-ghost use Rattle.reader.specs.code.Cursor.{Stands, Stepped};
+ghost use Rattle.reader.specs.code.Cursor.{CursorAfter, CursorStep};
 ghost use Rattle.reader.specs.Reader.{yielded, yieldOf, read, ReadOff};
 use crate::cursor::Cursor;
 use crate::cursor::open_at;
@@ -26,7 +26,7 @@ pub struct PostingReader<'a> {
 
 // Judges the card and the question. Refused, the reader carries the number and yields nothing.
 pub fn open<'a>(card: &'a [u32], term: u32, from: u32, to: u32) -> PostingReader<'a>
-    ensures { λ r. ⌜ (r .number ≡ questionNumber (now (card .entry)) term from to) × (r .card ≡ card .entry) × Stands (now (card .entry)) term from to 0 (r .cursor) ⌝ }
+    ensures { λ r. ⌜ (r .number ≡ questionNumber (now (card .entry)) term from to) × (r .card ≡ card .entry) × CursorAfter (now (card .entry)) term from to 0 (r .cursor) ⌝ }
 {
     let opening = open_at(card, term, from, to);
     PostingReader {
@@ -38,7 +38,7 @@ pub fn open<'a>(card: &'a [u32], term: u32, from: u32, to: u32) -> PostingReader
 
 // The next posting, or the end; nothing is judged.
 pub fn next<'s, 'a>(r: &'s mut PostingReader<'a>) -> Yield
-    ensures { λ y. ⌜ Stepped (now (now (r .entry) .card)) (now (r .entry) .cursor) (record { yielded = y; cursor = now (r .exit) .cursor }) × (now (r .exit) .number ≡ now (r .entry) .number) × (now (r .exit) .card ≡ now (r .entry) .card) ⌝ }
+    ensures { λ y. ⌜ CursorStep (now (now (r .entry) .card)) (now (r .entry) .cursor) (record { yielded = y; cursor = now (r .exit) .cursor }) × (now (r .exit) .number ≡ now (r .entry) .number) × (now (r .exit) .card ≡ now (r .entry) .card) ⌝ }
 {
     let s = step_at(r.card, r.cursor);
     r.cursor = s.cursor;

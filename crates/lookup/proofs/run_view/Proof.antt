@@ -1,5 +1,5 @@
 -- `lookup::run_view` meets its contract: the part of the card is the run.
-use Rattle.lookup.proofs.Answering.{view-of-part}
+use Rattle.lookup.proofs.CodeAnswers.{view-of-part}
 use borrow.Author.Needs.{needs}
 use Rattle.lookup.proofs.run_view.Statement.{statement}
 use Rattle.lookup.proofs.run_view.Tie as tie

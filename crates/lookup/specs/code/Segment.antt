@@ -1,27 +1,26 @@
 -- The blocks of a segment that a lookup reads.
-use Prim.Native.Nat.{ℕ, _+_, _-_, _%_, _≤_, _<_}
+use Prim.Native.Nat.{ℕ, _+_, _-_, _%_, _<_}
 use mathlib.Core.Path.{_≡_}
 use mathlib.Core.Bool.{true, _&&_}
 use mathlib.Core.List.{List}
 use lib.Dec.{ltb, leb}
 use lib.ListN.{length}
-use Rattle.pair.specs.Rank.{rank}
+use Rattle.pair.specs.Rank.{wordLimit, rank}
 use Rattle.pair.specs.Rising.{risingFrom}
 use Rattle.block.specs.code.Wanted.{isWanted}
 use Rattle.card.specs.Layout.{placeCount, around, pairsAt}
 use Rattle.card.specs.Sound.{blocksSound}
+use Rattle.card.specs.code.Scan.{Ordered}
+use Rattle.card.specs.declared.layout.Configuration.{Configuration}
 use Rattle.lookup.specs.declared.walk.Stretch.{Stretch}
 use Rattle.lookup.specs.declared.walk.Walk.{Walk}
 use Rattle.lookup.specs.Found.{found, mappedTo, span, blocksRead}
 use Rattle.lookup.specs.Views.{run, runStart}
-use Rattle.card.specs.code.Scan.{Shaped}
 use Rattle.lookup.specs.code.Walk.{ahead, blocksOf, nextRun, nextStart, ReadyWalk}
 
 -- the len places from start are sound blocks, rising from block to block
-pub record Segment (c : List ℕ) (start len : ℕ) : Type 0 where
-  pub shape : Shaped c
-  pub near : start ≤ 2048
-  pub few : len ≤ 1024
+pub record Segment (c : List ℕ) (k : Configuration) (start len : ℕ) : Type 0 where
+  pub ordered : Ordered c k
   pub sound : blocksSound c (around (placeCount c) start len) ≡ true
   pub rises : risingFrom 0 (pairsAt c (around (placeCount c) start len)) ≡ true
 
@@ -35,15 +34,14 @@ spanned c start len t a z after =
     }
 
 -- the wanted pairs of a segment are those from a to z above the bound
-pub record LiveAfter (t a z u p r : ℕ) : Type 0 where
-  pub same : (x : ℕ) → isWanted t r z x ≡ (ltb (rank u p) x && (leb (rank t a) x && leb x (rank t z)))
+pub record LiveAfter (t a z b r : ℕ) : Type 0 where
+  pub same : (x : ℕ) → isWanted t r z x ≡ (ltb b x && (leb (rank t a) x && leb x (rank t z)))
 
 -- the walk that a lookup makes: what is ahead of it is what is found, and its blocks are those read
-pub record Opened (c : List ℕ) (t a z : ℕ) (w : Walk) : Type 0 where
+pub record LookupWalk (c : List ℕ) (t a z : ℕ) (w : Walk) : Type 0 where
   pub ready : ReadyWalk c w
   pub found : ahead c w ≡ found c t a z
-  pub few : length (ahead c w) < 4294967296
+  pub few : length (ahead c w) < wordLimit
   pub blocks : blocksOf w ≡ blocksRead c t a z
-  pub most : blocksOf w < 4294967296
   pub run : nextRun c w ≡ run c t a z
   pub start : nextStart c w ≡ runStart c t a z

@@ -1,16 +1,16 @@
 -- The blocks that a lookup reads, one run of wanted positions after another.
 use Prim.Native.Nat.{ℕ, _+_, _≤_, _<_}
 use mathlib.Core.Path.{_≡_}
-use mathlib.Core.Bool.{Bool, true, false, cond, _&&_}
+use mathlib.Core.Bool.{Bool, true, cond}
 use mathlib.Core.List.{List, [], _∷_, _++_, map}
 use lib.ListN.{length, take, drop}
-use lib.Dec.{ltb, leb, eqb}
+use lib.Dec.{eqb}
 use Rattle.pair.specs.Rank.{position}
 use Rattle.pair.specs.Rising.{Each, keep}
 use Rattle.block.specs.Block.{pairs, wordsBefore, formed}
 use Rattle.block.specs.code.Wanted.{isWanted}
 use Rattle.block.specs.declared.wanted.Part.{Part}
-use Rattle.card.specs.Layout.{blockSize, placeCount, entryWidth, cardLength, placeAt, place, around, pairsAt}
+use Rattle.card.specs.Layout.{placeCount, placeAt, place, around, pairsAt}
 use Rattle.card.specs.code.Scan.{Shaped}
 use Rattle.lookup.specs.declared.walk.Stretch.{Stretch}
 use Rattle.lookup.specs.declared.walk.Walk.{Walk}
@@ -19,38 +19,29 @@ use Rattle.lookup.specs.declared.walk.WalkStart.{WalkStart}
 use Rattle.lookup.specs.declared.walk.WalkRun.{WalkRun}
 use Rattle.lookup.specs.Found.{found, questionNumber, blocksRead}
 
--- the test of a card's shape
-unfoldable pub isShaped : List ℕ → Bool
-isShaped c =
-    cond (ltb (length c) 8) false
-    (cond ((leb (blockSize c) 1024 && leb 2 (placeCount c)) && leb (placeCount c) 1024)
-    (eqb (length c) (cardLength entryWidth (blockSize c) (placeCount c))) false)
-
--- of a live block, the part has the wanted positions, and starts where the first of them stands
+-- the part lies in the card; of a live block it has the wanted positions, and starts where the first of them stands
 pub record PlacePart (c : List ℕ) (i t a z : ℕ) (r : Part) : Type 0 where
   pub inside : r .start + r .len ≤ length c
   pub positions : formed (place c i) ≡ true → take (r .len) (drop (r .start) c) ≡ map position (keep (isWanted t a z) (pairs (place c i)))
   pub before :
       formed (place c i) ≡ true → 0 < r .len →
-      r .start ≡ placeAt entryWidth c i + wordsBefore (isWanted t a z) (place c i) 0 0
+      r .start ≡ placeAt c i + wordsBefore (isWanted t a z) (place c i) 0 0
 
 -- the positions of the pairs that pass the test, in the blocks at the places
 unfoldable pub postings : List ℕ → (ℕ → Bool) → List ℕ → List ℕ
 postings c f is = map position (keep f (pairsAt c is))
 
--- those of the first of the places that has any
-unfoldable pub runOf : List ℕ → (ℕ → Bool) → List ℕ → List ℕ
-runOf c f [] = []
-runOf c f (i ∷ is) = elim (keep f (pairs (place c i))) [ [] ↦ runOf c f is | x ∷ xs ↦ map position (x ∷ xs) ]
+-- what the first of the places has at which some pair passes the test; the last argument where there is no such place
+unfoldable pub atFirst : {A : Type 0} → List ℕ → (ℕ → Bool) → (ℕ → A) → List ℕ → A → A
+atFirst c f has [] none = none
+atFirst c f has (i ∷ is) none = elim (keep f (pairs (place c i))) [ [] ↦ atFirst c f has is none | x ∷ xs ↦ has i ]
 
--- where in the card they start, 0 where there are none
-unfoldable pub runStartOf : List ℕ → (ℕ → Bool) → List ℕ → ℕ
-runStartOf c f [] = 0
-runStartOf c f (i ∷ is) =
-    elim (keep f (pairs (place c i))) [
-      | [] ↦ runStartOf c f is
-      | x ∷ xs ↦ placeAt entryWidth c i + wordsBefore f (place c i) 0 0
-    ]
+-- the positions of the pairs that pass the test, in the first of the places that has any, and where in the card they start
+abbrev pub runOf : List ℕ → (ℕ → Bool) → List ℕ → List ℕ → List ℕ
+runOf c f is none = atFirst c f (λ i. map position (keep f (pairs (place c i)))) is none
+
+abbrev pub runStartOf : List ℕ → (ℕ → Bool) → List ℕ → ℕ → ℕ
+runStartOf c f is none = atFirst c f (λ i. placeAt c i + wordsBefore f (place c i) 0 0) is none
 
 abbrev pub placesOf : List ℕ → Stretch → List ℕ
 placesOf c s = around (placeCount c) (s .place) (s .blocks)
@@ -59,11 +50,12 @@ placesOf c s = around (placeCount c) (s .place) (s .blocks)
 abbrev pub aheadOf : List ℕ → ℕ → ℕ → Stretch → List ℕ
 aheadOf c t z s = postings c (isWanted t (s .after) z) (placesOf c s)
 
-abbrev pub firstRun : List ℕ → ℕ → ℕ → Stretch → List ℕ
-firstRun c t z s = runOf c (isWanted t (s .after) z) (placesOf c s)
+-- its first run, and where in the card that starts; the last argument where nothing is wanted
+abbrev pub firstRun : List ℕ → ℕ → ℕ → Stretch → List ℕ → List ℕ
+firstRun c t z s none = runOf c (isWanted t (s .after) z) (placesOf c s) none
 
-abbrev pub firstStart : List ℕ → ℕ → ℕ → Stretch → ℕ
-firstStart c t z s = runStartOf c (isWanted t (s .after) z) (placesOf c s)
+abbrev pub firstStart : List ℕ → ℕ → ℕ → Stretch → ℕ → ℕ
+firstStart c t z s none = runStartOf c (isWanted t (s .after) z) (placesOf c s) none
 
 -- a stretch that has blocks lies in a card of the right shape, and they are live blocks
 pub record Ready (c : List ℕ) (s : Stretch) : Type 0 where
@@ -78,8 +70,8 @@ pub record Sought (c : List ℕ) (t z : ℕ) (s : Stretch) (r : StretchRun) : Ty
   pub fewer : 0 < r .len → r .rest .blocks < s .blocks
   pub spent : r .len ≡ 0 → r .rest .blocks ≡ 0
   pub ready : Ready c s → Ready c (r .rest)
-  pub run : Ready c s → take (r .len) (drop (r .start) c) ≡ firstRun c t z s
-  pub starts : Ready c s → r .start ≡ firstStart c t z s
+  pub run : Ready c s → take (r .len) (drop (r .start) c) ≡ firstRun c t z s []
+  pub starts : Ready c s → r .start ≡ firstStart c t z s 0
   pub rest : Ready c s → aheadOf c t z s ≡ take (r .len) (drop (r .start) c) ++ aheadOf c t z (r .rest)
   pub none : Ready c s → r .len ≡ 0 → aheadOf c t z s ≡ []
 
@@ -90,30 +82,19 @@ ahead c w = aheadOf c (w .term) (w .to) (w .new) ++ aheadOf c (w .term) (w .to) 
 abbrev pub blocksOf : Walk → ℕ
 blocksOf w = w .new .blocks + w .old .blocks
 
--- the first of two lists that has an element
-unfoldable pub orElse : List ℕ → List ℕ → List ℕ
-orElse [] ys = ys
-orElse (x ∷ xs) ys = x ∷ xs
-
--- the number that goes with it
-unfoldable pub orElseAt : List ℕ → ℕ → ℕ → ℕ
-orElseAt [] i j = j
-orElseAt (x ∷ xs) i j = i
-
+-- the first run of the new segment's blocks, or else of the old segment's
 abbrev pub nextRun : List ℕ → Walk → List ℕ
-nextRun c w = orElse (firstRun c (w .term) (w .to) (w .new)) (firstRun c (w .term) (w .to) (w .old))
+nextRun c w = firstRun c (w .term) (w .to) (w .new) (firstRun c (w .term) (w .to) (w .old) [])
 
 abbrev pub nextStart : List ℕ → Walk → ℕ
-nextStart c w =
-    orElseAt (firstRun c (w .term) (w .to) (w .new)) (firstStart c (w .term) (w .to) (w .new))
-    (firstStart c (w .term) (w .to) (w .old))
+nextStart c w = firstStart c (w .term) (w .to) (w .new) (firstStart c (w .term) (w .to) (w .old) 0)
 
 pub record ReadyWalk (c : List ℕ) (w : Walk) : Type 0 where
   pub new : Ready c (w .new)
   pub old : Ready c (w .old)
 
 -- a walk at its start: the question's number, and ahead of it what is found; nothing, and no block, where the question is refused
-pub record Started (c : List ℕ) (t a z : ℕ) (r : WalkStart) : Type 0 where
+pub record WalkStarted (c : List ℕ) (t a z : ℕ) (r : WalkStart) : Type 0 where
   pub number : r .number ≡ questionNumber c t a z
   pub ready : ReadyWalk c (r .walk)
   pub wanted : ahead c (r .walk) ≡ cond (eqb (questionNumber c t a z) 0) (found c t a z) []

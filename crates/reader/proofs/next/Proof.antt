@@ -43,7 +43,7 @@ use denote.Triple.Spec.{Meets, tripleOf}
 use denote.Triple.Statement.{Contract, Triple}
 use denote.Triple.Table.{entered, cited}
 use denote.Triple.Walked.{says, Stays, stay-ref, walkOf, goes-ref, Walks, ends-at, walked, walk-meets}
-use Rattle.reader.specs.code.Cursor.{Stepped}
+use Rattle.reader.specs.code.Cursor.{CursorStep}
 use Rattle.reader.specs.declared.PostingReader.{PostingReader}
 use Rattle.reader.specs.declared.cursor.Cursor.{Cursor}
 use Rattle.reader.specs.declared.cursor.Step.{Step}
@@ -110,7 +110,7 @@ module _ {M : Type 1} (𝓤 : URA M) (H : Heap 𝓤) (A : Atoms 𝓤) (W : Given
   yv r = EL.val Y.the-type Y′.the-laws (r .yielded)
 
   abbrev Said : Step → Type 0
-  Said r = Stepped (now (h .card)) (h .cursor) r
+  Said r = CursorStep (now (h .card)) (h .cursor) r
 
   exits : (r : Step) → Said r → ent 𝓤 (⋆ 𝓤 H A (‵ (fobs γ (B κ′ .coded .code (h′ (r .cursor)))) ∷ ‵ (fbor κ (Body (mem (B κ′)) b o γ)) ∷ ‵ (flft κ q) ∷ (‵ (flft κ′ q′) ⊛ ‵ ftrue) ∷ ‵ (Y.the-row .own (r .yielded) (yv r ∷ [])) ∷ [])) (Post (yv r))
   exits r e =

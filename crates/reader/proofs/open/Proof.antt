@@ -40,7 +40,7 @@ use denote.Triple.Table.{entered, cited}
 use denote.Triple.Walked.{says, Stays, stay-none, stay-none-slice, walkOf, goes-none, goes-none-slice, Walks, ends-at, walked, walk-meets}
 use denote.Exit.{yes}
 use Rattle.lookup.specs.Found.{questionNumber}
-use Rattle.reader.specs.code.Cursor.{Stands}
+use Rattle.reader.specs.code.Cursor.{CursorAfter}
 use Rattle.reader.specs.declared.cursor.Opening.{Opening}
 use Rattle.reader.proofs.cursor.Cursor as Cur
 use Rattle.reader.proofs.cursor.Cursor.Laws as Cur′
@@ -88,7 +88,7 @@ module _ {M : Type 1} (𝓤 : URA M) (H : Heap 𝓤) (A : Atoms 𝓤) (W : Given
   Own = ShrSlice (named 0) κ u32 .own s (v ∷ [])
 
   abbrev Said : Opening → Type 0
-  Said r = (r .number ≡ questionNumber (now s) t a z) × Stands (now s) t a z 0 (r .cursor)
+  Said r = (r .number ≡ questionNumber (now s) t a z) × CursorAfter (now s) t a z 0 (r .cursor)
 
   -- ---- the call
   abbrev to : OpenAt 𝓤 H A mem run .Ghost

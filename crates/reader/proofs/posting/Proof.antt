@@ -42,7 +42,7 @@ use denote.Triple.Walked.{says, Stays, stay-none, stay-none-slice, walkOf, goes-
 use denote.Exit.{yes}
 use Rattle.lookup.specs.Found.{questionNumber}
 use Rattle.reader.specs.Reader.{yielded, yieldOf}
-use Rattle.reader.specs.code.Cursor.{Stands, Later}
+use Rattle.reader.specs.code.Cursor.{CursorAfter, Later}
 use Rattle.reader.specs.declared.Yield.{Yield}
 use Rattle.reader.specs.declared.cursor.Cursor.{Cursor}
 use Rattle.reader.proofs.cursor.Cursor as Cur
@@ -121,7 +121,7 @@ module _ {M : Type 1} (𝓤 : URA M) (H : Heap 𝓤) (A : Atoms 𝓤) (W : Given
       move ! (1 ∷ 0 ∷ []) $ fjoin ! $ move ! (2 ∷ 0 ∷ []) $ use2 W (raw (Open 𝓤 H A mem run .pre to-open)) (qed W ((‵ (flft κ q) ⊛ ‵ ftrue) ∷ ‵ (owns (ShrSlice (named 0) κ u32 ∷ u32 ∷ u32 ∷ u32 ∷ []) asking asking-at) ∷ []) ∵ join ! $ frame ! $ done !) $ frame ! $ done !
 
   abbrev Opened : PostingReader → Type 0
-  Opened r = (r .number ≡ questionNumber (now s) t a z) × (r .card ≡ s) × Stands (now s) t a z 0 (r .cursor)
+  Opened r = (r .number ≡ questionNumber (now s) t a z) × (r .card ≡ s) × CursorAfter (now s) t a z 0 (r .cursor)
 
   open-said : (r : PostingReader) → ent 𝓤 (ensured 𝓤 H A opn.ended (opn.clauses 𝓤 H A mem run) (κ, tt) asking tt r) (fact 𝓤 (Opened r))
   open-said r = exE 𝓤 _ (λ ws. snd∗ 𝓤 (sem 𝓤 H A (lasts opn.ended (κ, tt) asking ws)) (fact 𝓤 (Opened r)))

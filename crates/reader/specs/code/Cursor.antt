@@ -11,7 +11,7 @@ use Rattle.reader.specs.Reader.{allYielded, Yielded, posting, ended, yie
 
 -- the cursor of a reader that was opened with the question and has yielded n times: the postings left of its run and those ahead of its
 -- walk are the others
-pub record Stands (c : List ℕ) (t a z n : ℕ) (k : Cursor) : Type 0 where
+pub record CursorAfter (c : List ℕ) (t a z n : ℕ) (k : Cursor) : Type 0 where
   pub inside : k .at + k .left ≤ length c
   pub ready : ReadyWalk c (k .walk)
   pub rest : take (k .left) (drop (k .at) c) ++ ahead c (k .walk) ≡ drop n (allYielded c t a z)
@@ -28,11 +28,11 @@ OfCard c (posting p) = WordOf c p
 OfCard c ended = Unit {0}
 
 -- a step at a reader's cursor yields what comes next, and leaves the cursor behind it; at any cursor it yields the end or a word of the card
-pub record Stepped (c : List ℕ) (k : Cursor) (r : Step) : Type 0 where
+pub record CursorStep (c : List ℕ) (k : Cursor) (r : Step) : Type 0 where
   pub word : OfCard c (yieldOf (r .yielded))
-  pub yields : (t a z n : ℕ) → Stands c t a z n k → yieldOf (r .yielded) ≡ yielded c t a z n
-  pub stands : (t a z n : ℕ) → Stands c t a z n k → Stands c t a z (n + 1) (r .cursor)
+  pub yields : (t a z n : ℕ) → CursorAfter c t a z n k → yieldOf (r .yielded) ≡ yielded c t a z n
+  pub after : (t a z n : ℕ) → CursorAfter c t a z n k → CursorAfter c t a z (n + 1) (r .cursor)
 
 -- what is yielded after n others
 pub record Later (c : List ℕ) (k : Cursor) (n : ℕ) (y : Yield) : Type 0 where
-  pub yields : (t a z m : ℕ) → Stands c t a z m k → yieldOf y ≡ yielded c t a z (m + n)
+  pub yields : (t a z m : ℕ) → CursorAfter c t a z m k → yieldOf y ≡ yielded c t a z (m + n)

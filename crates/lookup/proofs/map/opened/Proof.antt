@@ -1,79 +1,60 @@
 -- `lookup::map::opened` meets its contract: the spans of the two segments.
 use native.Mathlib.Omega.{arith}
 use Rattle.pair.specs.Rank.{Words}
-use Rattle.card.proofs.Facts.{Facts}
-use Rattle.lookup.proofs.Answers.{asked}
-use Rattle.lookup.proofs.Opening.{question-facts, new-segment, old-segment, opened-walk}
+use Rattle.card.proofs.Facts.{Facts, facts}
+use Rattle.lookup.proofs.Answers.{Asked, asked}
+use Rattle.lookup.proofs.Opening.{new-segment, old-segment, opened-walk}
+use borrow.Author.Needs.{needs}
 use Rattle.lookup.proofs.map.opened.Statement.{statement}
 use Rattle.lookup.proofs.map.opened.Tie as tie
 
-facts-at : (c : tie.Start) → Facts (c .args .card .now)
-facts-at c = question-facts (c .args .card .now) (c .args .term) (c .args .from) (c .args .to) (c .pre)
+question : (s : tie.Start) → Asked (s .args .card .now) (s .args .term) (s .args .from) (s .args .to)
+question s = asked _ _ _ _ (s .pre)
+
+sound : (s : tie.Start) → Facts (s .args .card .now)
+sound s = facts _ (question s .sound)
 
 words : (c : tie.After-shared-slice-known) → Words (c .before .args .card .now)
 unfolding Words
 words c i = omega (arith, c .shared-slice-known .given i)
 
-shared-slice-read-old-start : tie.Need-shared-slice-read-old-start
-shared-slice-read-old-start c = let g = facts-at (c .before .before) in omega (arith, g .long)
-
-cast-old-start : tie.Need-cast-old-start
-cast-old-start c = omega (arith, c .shared-slice-known2 .given 3)
-
-shared-slice-read-old-len : tie.Need-shared-slice-read-old-len
-shared-slice-read-old-len c = let g = facts-at (c .before .before .before) in omega (arith, g .long)
-
-cast-old-len : tie.Need-cast-old-len
-cast-old-len c = omega (arith, c .shared-slice-known3 .given 4)
-
-shared-slice-read-new-len : tie.Need-shared-slice-read-new-len
-shared-slice-read-new-len c = let g = facts-at (c .before .before .before .before) in omega (arith, g .long)
-
-cast-new-len : tie.Need-cast-new-len
-cast-new-len c = omega (arith, c .shared-slice-known4 .given 5)
+of-requires : tie.Need-of-requires
+of-requires c κs = search needs
 
 live-after-requires : tie.Need-live-after-requires
-live-after-requires c κs = asked _ _ _ _ (c .before .before .before .before .pre) .fromLow
+live-after-requires c κs = question (c .before .before) .fromLow
 
-add-span : tie.Need-add-span
-add-span c = let g = facts-at (c .before .before .before .before .before) in omega (arith, g .start, g .room, g .countHigh)
+new-start-requires : tie.Need-new-start-requires
+new-start-requires c κs = search needs
 
 span-requires : tie.Need-span-requires
-span-requires c κs = let s = c .before .before .before .before .before in (new-segment _ (facts-at s), asked _ _ _ _ (s .pre) .range)
-
-shared-slice-read-live-after : tie.Need-shared-slice-read-live-after
-shared-slice-read-live-after c = let g = facts-at (c .before .before .before .before .before .before .before) in omega (arith, g .long)
-
-shared-slice-read-live-after-2 : tie.Need-shared-slice-read-live-after-2
-shared-slice-read-live-after-2 c = let g = facts-at (c .before .before .before .before .before .before .before .before) in omega (arith, g .long)
+span-requires c κs = let o = c .before .before in
+    let s = o .before .before in
+    (rw (c .new-start .ensures) (new-segment (sound s) (o .of .ensures)), question s .range)
 
 live-after-requires-2 : tie.Need-live-after-requires-2
-live-after-requires-2 c κs = asked _ _ _ _ (c .before .before .before .before .before .before .before .before .pre) .fromLow
+live-after-requires-2 c κs = question (c .before .before .before .before .before) .fromLow
 
 span-requires-2 : tie.Need-span-requires-2
-span-requires-2 c κs = let s = c .before .before .before .before .before .before .before .before .before in (old-segment _ (facts-at s), asked _ _ _ _ (s .pre) .range)
+span-requires-2 c κs = let o = c .before .before .before .before in
+    let s = o .before .before in
+    (old-segment (sound s) (o .of .ensures), question s .range)
 
 returns : tie.Need-returns
-returns c =
-    let s = c .before .before .before .before .before .before .before .before .before .before in
-    rw (c .before .before .before .before .span .ensures, c .span2 .ensures)
-    (opened-walk (s .args .card .now) (s .args .term) (s .args .from) (s .args .to) (c .before .before .before .before .before .live-after .result) (c .before .live-after2 .result) (words (c .before .before .before .before .before .before .before .before .before)) (s .pre) (c .before .before .before .before .before .live-after .ensures) (c .before .live-after2 .ensures))
+returns c = let n = c .before .before .before in
+    let o = n .before .before in
+    let s = o .before .before in
+    rw (c .before .before .span .ensures, c .span2 .ensures, n .new-start .ensures)
+    (opened-walk (s .args .card .now) (o .of .result) (s .args .term) (s .args .from) (s .args .to) _ _ (words (o .before)) (s .pre) (o .of .ensures) (n .before .live-after .ensures) (rw (o .of .ensures .ofBoundary) at (c .before .live-after2 .ensures)))
 
 pub opened-spec : {M : Type 1} → statement M
 opened-spec =
     tie.close
     (tie.spec
-    shared-slice-read-old-start
-    cast-old-start
-    shared-slice-read-old-len
-    cast-old-len
-    shared-slice-read-new-len
-    cast-new-len
+    of-requires
     live-after-requires
-    add-span
+    new-start-requires
     span-requires
-    shared-slice-read-live-after
-    shared-slice-read-live-after-2
     live-after-requires-2
     span-requires-2
     returns)

@@ -4,17 +4,17 @@ use borrow.Author.Needs.{needs}
 use Rattle.lookup.proofs.walk.start_walk.Statement.{statement}
 use Rattle.lookup.proofs.walk.start_walk.Tie as tie
 
-run-view-number-requires : tie.Need-run-view-number-requires
-run-view-number-requires c κs = search needs
+question-number-requires : tie.Need-question-number-requires
+question-number-requires c κs = search needs
 
 returns : tie.Need-returns
-returns c = started-refused (c .before .run-view-number .ensures) (c .if1 .taken)
+returns c = started-refused (c .before .question-number .ensures) (c .if1 .taken)
 
 opened-requires : tie.Need-opened-requires
 opened-requires c κs = search needs
 
 returns-2 : tie.Need-returns-2
-returns-2 c = started-opened (c .before .before .run-view-number .ensures) (c .before .if1 .left) (c .opened .ensures)
+returns-2 c = started-opened (c .before .before .question-number .ensures) (c .before .if1 .left) (c .opened .ensures)
 
 pub start-walk-spec : {M : Type 1} → statement M
-start-walk-spec = tie.close (tie.spec run-view-number-requires returns opened-requires returns-2)
+start-walk-spec = tie.close (tie.spec question-number-requires returns opened-requires returns-2)

@@ -1,6 +1,6 @@
 -- `reader::cursor::step_over` meets its contract.
 use native.Mathlib.Omega.{arith}
-use Rattle.reader.proofs.Cursors.{stepped-over, stepped-end}
+use Rattle.reader.proofs.Cursors.{step-over, step-end}
 use borrow.Author.Needs.{needs}
 use Rattle.reader.proofs.cursor.step_over.Statement.{statement}
 use Rattle.reader.proofs.cursor.step_over.Tie as tie
@@ -21,10 +21,10 @@ sub-t13 : tie.Need-sub-t13
 sub-t13 c = search needs
 
 returns : tie.Need-returns
-returns c = λ at. stepped-over at (c .before .before .before .next-run .ensures) (c .before .if1 .taken)
+returns c = λ at. step-over at (c .before .before .before .next-run .ensures) (c .before .if1 .taken)
 
 returns-2 : tie.Need-returns-2
-returns-2 c = λ at. stepped-end at (c .before .before .next-run .ensures) (omega (arith, c .if1 .left))
+returns-2 c = λ at. step-end at (c .before .before .next-run .ensures) (omega (arith, c .if1 .left))
 
 pub step-over-spec : {M : Type 1} → statement M
 step-over-spec =

@@ -1,10 +1,10 @@
--- `lookup::run_view_number` meets its contract: the judge's number, then that of the question.
+-- `lookup::question_number` meets its contract: the judge's number, then that of the question.
 use mathlib.Core.Path.{_∙_}
 use native.Mathlib.Omega.{arith}
-use Rattle.lookup.proofs.Answering.{question-test, question-refused, question-none, question-asked}
+use Rattle.lookup.proofs.CodeAnswers.{question-test, question-refused, question-none, question-asked}
 use borrow.Author.Needs.{needs}
-use Rattle.lookup.proofs.run_view_number.Statement.{statement}
-use Rattle.lookup.proofs.run_view_number.Tie as tie
+use Rattle.lookup.proofs.question_number.Statement.{statement}
+use Rattle.lookup.proofs.question_number.Tie as tie
 
 judge-requires : tie.Need-judge-requires
 judge-requires c κs = search needs
@@ -16,16 +16,15 @@ is-pair-requires : tie.Need-is-pair-requires
 is-pair-requires c κs = search needs
 
 returns-2 : tie.Need-returns-2
-returns-2 c =
-    let s = c .before .before .before .before .before .args in
+returns-2 c = let s = c .before .before .before .before .before .args in
     question-none _ _ _ _ _ (c .before .before .before .judge .ensures) (c .before .before .if1 .left)
     (question-test (s .term) (s .from) (s .to) (omega arith) (omega arith) (c .before .is-pair .ensures) ∙ c .if2 .taken)
 
 returns-3 : tie.Need-returns-3
-returns-3 c =
-    let s = c .before .before .before .before .before .args in
+returns-3 c = let s = c .before .before .before .before .before .args in
     question-asked _ _ _ _ _ (c .before .before .before .judge .ensures) (c .before .before .if1 .left)
     (question-test (s .term) (s .from) (s .to) (omega arith) (omega arith) (c .before .is-pair .ensures) ∙ c .if2 .left)
 
-pub run-view-number-spec : {M : Type 1} → statement M
-run-view-number-spec = tie.close (tie.spec judge-requires returns is-pair-requires returns-2 returns-3)
+pub question-number-spec : {M : Type 1} → statement M
+question-number-spec =
+    tie.close (tie.spec judge-requires returns is-pair-requires returns-2 returns-3)

@@ -9,6 +9,7 @@ use lib.ListN.{length, take, drop}
 use lib.Seq.{sets}
 use lib.Dec.{ltb, eqb}
 use Rattle.pair.specs.Bounds.{isPair}
+use Rattle.pair.specs.Rank.{wordLimit}
 use Rattle.pair.specs.Tests.{firstOf}
 use Rattle.pair.proofs.Bounds.{isPair-word}
 use Rattle.card.specs.Sound.{judged}
@@ -20,12 +21,12 @@ use Rattle.lookup.specs.declared.LookupAnswer.the-variants.{Refused, Fou
 use Rattle.lookup.specs.Answer.{numberOf, countOf, blocksReadOf, answerOf}
 use Rattle.lookup.specs.Views.{run, runStart, Viewed}
 use Rattle.lookup.specs.Found.{found, questionNumber, lookupNumber, Lookup, lookup}
-use Rattle.lookup.specs.code.Segment.{Opened}
+use Rattle.lookup.specs.code.Segment.{LookupWalk}
 use Rattle.lookup.specs.code.Walk.{ahead, blocksOf, Next}
 use Rattle.lookup.proofs.Answers.{lookup-found, lookup-refused}
 
 -- the test of the question: of 32-bit words, those that are no pair have a 0 among them
-pub question-test : (t a z : ℕ) {b : Bool} → t < 4294967296 → a < 4294967296 → b ≡ isPair t a → ((eqb t 0 || eqb a 0) || ltb z a) ≡ (not b || ltb z a)
+pub question-test : (t a z : ℕ) {b : Bool} → t < wordLimit → a < wordLimit → b ≡ isPair t a → ((eqb t 0 || eqb a 0) || ltb z a) ≡ (not b || ltb z a)
 question-test t a z h k e = rw (e, isPair-word t a h k) (ap (λ x. x || ltb z a) (twice (eqb t 0 || eqb a 0)))
   where
     twice : (x : Bool) → x ≡ not (not x)
@@ -72,7 +73,7 @@ module _ (c : List ℕ) (t a z : ℕ) (ans : List ℕ) where
 
   -- for its answer words
   pub answered-short :
-      {n : ℕ} {w : Walk} → n ≡ questionNumber c t a z → n ≡ 0 → Opened c t a z w → {m : ℕ} → m ≡ length (ahead c w) → length ans < m →
+      {n : ℕ} {w : Walk} → n ≡ questionNumber c t a z → n ≡ 0 → LookupWalk c t a z w → {m : ℕ} → m ≡ length (ahead c w) → length ans < m →
       Answered c t a z ans (Refused 10) ans
   answered-short {n} {w} e h o {m} f l =
       let short : length ans < length (found c t a z) = rw (← o .found) (omega arith) in
@@ -82,7 +83,7 @@ module _ (c : List ℕ) (t a z : ℕ) (ans : List ℕ) where
 
   -- and one that is not refused
   pub answered-found :
-      {n : ℕ} {w : Walk} → n ≡ questionNumber c t a z → n ≡ 0 → Opened c t a z w → {m : ℕ} → m ≡ length (ahead c w) → m ≤ length ans →
+      {n : ℕ} {w : Walk} → n ≡ questionNumber c t a z → n ≡ 0 → LookupWalk c t a z w → {m : ℕ} → m ≡ length (ahead c w) → m ≤ length ans →
       {after : List ℕ} → after ≡ sets ans 0 (ahead c w) → Answered c t a z ans (Found m (blocksOf w)) after
   answered-found {n} {w} e h o {m} f l {after} s =
       let room : length (found c t a z) ≤ length ans = rw (← o .found) (omega arith) in
@@ -115,7 +116,7 @@ viewed-refused {c} {t} {a} {z} e h =
     record { ofNumber = e; ofStart = rw f; ofLength = rw f; inside = zero-le; part = rw f }
 
 pub viewed-found :
-    {c : List ℕ} {t a z n : ℕ} {w : Walk} {r : WalkRun} → n ≡ questionNumber c t a z → Opened c t a z w → Next c w r → Viewed c t a z n (r .start) (r .len)
+    {c : List ℕ} {t a z n : ℕ} {w : Walk} {r : WalkRun} → n ≡ questionNumber c t a z → LookupWalk c t a z w → Next c w r → Viewed c t a z n (r .start) (r .len)
 viewed-found {c} {t} {a} {z} {n} {w} {r} e o x =
     let same : take (r .len) (drop (r .start) c) ≡ run c t a z = x .run (o .ready) ∙ o .run in
     record {

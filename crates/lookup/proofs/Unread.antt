@@ -1,80 +1,68 @@
--- The defined span of a segment: blocks outside it hold nothing wanted, so that what is wanted of the segment is wanted of the span.
+-- The blocks of a segment that a lookup does not read hold nothing wanted, so that what is wanted of the segment is wanted of the defined span.
 use Prim.Native.Nat.{ℕ, zero, suc, _+_, _-_, _%_, _≤_, _<_, zero-le}
 use native.Mathlib.Nat.{mod-lt}
 use native.Mathlib.Omega.{arith}
 use mathlib.Core.Path.{_≡_, refl, sym, ap, _∙_}
 use mathlib.Core.Bool.{Bool, true, false, cond, _&&_, _||_}
-use mathlib.Core.List.{List, [], _∷_, _++_, map, append-nil}
+use mathlib.Core.List.{List, [], _∷_, _++_, append-nil}
 use mathlib.Core.Logic.{inr}
-use borrow.Author.Tests.{leb-true, leb-false, le-leb, ltb-true, lt-ltb, eqb-true}
-use lib.ListN.{length, take, drop, getD, take-append-drop, length-append, List·getD-append}
+use borrow.Author.Tests.{leb-true, leb-false, le-leb, ltb-true, lt-ltb}
+use lib.ListN.{length, take, drop, getD, take-append-drop}
 use lib.Seq.{drop-drop}
 use lib.Dec.{ltb, leb, eqb}
-use Rattle.pair.specs.Rank.{rank, position}
+use Rattle.pair.specs.Rank.{rank}
 use Rattle.pair.specs.Rising.{Each, keep, within, risingFrom, last}
 use Rattle.pair.proofs.Each.{Each-imply, Each-take, Each-drop}
 use Rattle.pair.proofs.Keep.{keep-append, keep-none}
 use Rattle.pair.proofs.Parts.{atMost-all, Each-atMost}
-use Rattle.pair.proofs.Rising.{rising-cons, rising-head, rising-tail, rising-last}
+use Rattle.pair.proofs.Rising.{rising-last}
 use Rattle.pair.proofs.Sets.{rising-Each}
 use Rattle.pair.proofs.Tests.{and-left, and-right, or-intro}
-use Rattle.block.specs.Block.{pairs, wordsBefore, formed}
-use Rattle.block.proofs.Reading.{formed-some}
-use Rattle.card.specs.Layout.{entryWidth, placeCount, placeAt, firstPair, place, around, pairsAt}
+use Rattle.block.specs.Block.{pairs, formed}
+use Rattle.card.specs.Layout.{placeCount, firstPair, place, around, pairsAt}
 use Rattle.card.specs.Sound.{blocksSound}
+use Rattle.card.specs.code.Configuration.{placeOn}
+use Rattle.card.specs.declared.layout.Configuration.{Configuration}
 use Rattle.card.proofs.Circle.{around-drop, around-mod, length-around}
 use Rattle.card.proofs.Live.{pairsAt-append}
+use Rattle.card.proofs.Ordered.{place-on}
 use Rattle.lookup.specs.Found.{mappedTo, span}
 use Rattle.lookup.specs.code.Segment.{Segment, spanned}
-use Rattle.lookup.specs.code.Walk.{runOf, runStartOf, placesOf, Ready}
+use Rattle.lookup.specs.code.Walk.{atFirst, runOf, runStartOf, placesOf, Ready}
 use Rattle.lookup.proofs.Span.{First, first, mapped-none, mapped-leading}
-use Rattle.lookup.proofs.Walking.{run-skip, start-skip}
+use Rattle.lookup.proofs.Walking.{first-append, first-none}
 
 -- nothing at the place passes the test
-abbrev pub Empty : List ℕ → (ℕ → Bool) → ℕ → Type 0
+abbrev Empty : List ℕ → (ℕ → Bool) → ℕ → Type 0
 Empty c f i = keep f (pairs (place c i)) ≡ []
 
 -- places whose pairs lie above z
-none-above :
-    (c : List ℕ) (f : ℕ → Bool) (z : ℕ) → ((x : ℕ) → z < x → f x ≡ false) → (is : List ℕ) (j : ℕ) → blocksSound c is ≡ true →
-    risingFrom j (pairsAt c is) ≡ true → z ≤ j → Each (Empty c f) is
-none-above c f z h [] j s r l = tt
-none-above c f z h (i ∷ is) j s r l =
-    let d = first c j i is s r in (
-      keep-none f (pairs (place c i)) (Each-imply (λ x. j < x) (λ x. f x ≡ false) (λ x q. h x (omega arith)) (pairs (place c i)) (rising-Each (pairs (place c i)) j (d .rises))),
-      none-above c f z h is (last j (pairs (place c i))) (d .sound) (d .behind) (omega (arith, rising-last (pairs (place c i)) j (d .rises))),
-    )
+module _ (c : List ℕ) (f : ℕ → Bool) (z : ℕ) (h : (x : ℕ) → z < x → f x ≡ false) where
+  none-here : {j i : ℕ} {is : List ℕ} → First c j i is → z < firstPair c i → Empty c f i
+  none-here {i = i} d l =
+      keep-none f (pairs (place c i)) (Each-imply (λ x. firstPair c i - 1 < x) (λ x. f x ≡ false) (λ x q. h x (omega arith)) (pairs (place c i)) (rising-Each (pairs (place c i)) (firstPair c i - 1) (d .from)))
 
-head-rising : (ks : List ℕ) (j : ℕ) → 0 < length ks → risingFrom j ks ≡ true → risingFrom (getD ks 0 0 - 1) ks ≡ true
-head-rising [] j l r = absurd (omega arith)
-head-rising (k ∷ ks) j l r = rising-cons k ks (k - 1) (omega (arith, rising-head k ks j r)) (rising-tail k ks j r)
+  none-above : (is : List ℕ) (j : ℕ) → blocksSound c is ≡ true → risingFrom j (pairsAt c is) ≡ true → z ≤ j → Each (Empty c f) is
+  none-above [] j s r l = tt
+  none-above (i ∷ is) j s r l =
+      let d = first c j i is s r in (
+        none-here d (omega (arith, d .low)),
+        none-above is (last j (pairs (place c i))) (d .sound) (d .behind) (omega (arith, rising-last (pairs (place c i)) j (d .rises))),
+      )
 
--- the first pair of some places is the first place's map pair
-first-head : (c : List ℕ) (i : ℕ) (is : List ℕ) → blocksSound c (i ∷ is) ≡ true → (0 < length (pairsAt c (i ∷ is))) × (getD (pairsAt c (i ∷ is)) 0 0 ≡ firstPair c i)
-unfolding blocksSound pairsAt
-first-head c i is s =
-    let ks = pairs (place c i) in
-    let whole : (formed (place c i) && eqb (firstPair c i) (getD ks 0 0)) ≡ true = and-left _ (blocksSound c is) s in
-    let some : 0 < length ks = formed-some (place c i) (and-left _ (eqb (firstPair c i) (getD ks 0 0)) whole) in
-    let entry : firstPair c i ≡ getD ks 0 0 = eqb-true _ _ (and-right (formed (place c i)) _ whole) in
-    (rw length-append (omega arith), List·getD-append ks (pairsAt c is) 0 0 some ∙ sym entry)
-
--- behind the last place with a map pair of at most z
-none-behind :
-    (c : List ℕ) (f : ℕ → Bool) (z : ℕ) → ((x : ℕ) → z < x → f x ≡ false) → (is : List ℕ) (j : ℕ) → blocksSound c is ≡ true →
-    risingFrom j (pairsAt c is) ≡ true → Each (Empty c f) (drop (mappedTo c z is) is)
-none-behind c f z h [] j s r = unfold mappedTo in tt
-none-behind c f z h (i ∷ is) j s r =
-    let d = first c j i is s r in
-    rw (mapped-leading c z j i is s r)
-    (go (leb (firstPair c i) z) refl (none-behind c f z h is (last j (pairs (place c i))) (d .sound) (d .behind)))
-  where
-    go : (b : Bool) → leb (firstPair c i) z ≡ b → Each (Empty c f) (drop (mappedTo c z is) is) → Each (Empty c f) (drop (cond b (suc (mappedTo c z is)) 0) (i ∷ is))
-    go true e ih = ih
-    go false e ih =
-        let l : z < firstPair c i = leb-false (firstPair c i) z e in
-        let hd = first-head c i is s in
-        none-above c f z h (i ∷ is) (getD (pairsAt c (i ∷ is)) 0 0 - 1) s (head-rising (pairsAt c (i ∷ is)) j (hd .0) r) (omega (arith, hd .1))
+  -- behind the last place with a map pair of at most z
+  none-behind : (is : List ℕ) (j : ℕ) → blocksSound c is ≡ true → risingFrom j (pairsAt c is) ≡ true → Each (Empty c f) (drop (mappedTo c z is) is)
+  none-behind [] j s r = unfold mappedTo in tt
+  none-behind (i ∷ is) j s r =
+      let d = first c j i is s r in
+      rw (mapped-leading c z j i is s r)
+      (go d (leb (firstPair c i) z) refl (none-behind is (last j (pairs (place c i))) (d .sound) (d .behind)))
+    where
+      go : First c j i is → (b : Bool) → leb (firstPair c i) z ≡ b → Each (Empty c f) (drop (mappedTo c z is) is) → Each (Empty c f) (drop (cond b (suc (mappedTo c z is)) 0) (i ∷ is))
+      go d true e ih = ih
+      go d false e ih =
+          let l : z < firstPair c i = leb-false (firstPair c i) z e in
+          (none-here d l, none-above is (last j (pairs (place c i))) (d .sound) (d .behind) (omega (arith, d .high)))
 
 -- before the last place with a map pair of at most a
 none-before :
@@ -107,48 +95,6 @@ none-before c f a h (i ∷ is) j s r =
         rw e
         (keep-none f (pairs (place c i)) (Each-imply (λ x. x ≤ top) (λ x. f x ≡ false) (λ x q. h x (omega arith)) (pairs (place c i)) most), ih)
 
--- empty places are passed over, before and behind
-run-before : (c : List ℕ) (f : ℕ → Bool) (is js : List ℕ) → Each (Empty c f) is → runOf c f (is ++ js) ≡ runOf c f js
-run-before c f [] js e = refl
-run-before c f (i ∷ is) js e = run-skip c f i (is ++ js) (e .0) ∙ run-before c f is js (e .1)
-
-start-before : (c : List ℕ) (f : ℕ → Bool) (is js : List ℕ) → Each (Empty c f) is → runStartOf c f (is ++ js) ≡ runStartOf c f js
-start-before c f [] js e = refl
-start-before c f (i ∷ is) js e = start-skip c f i (is ++ js) (e .0) ∙ start-before c f is js (e .1)
-
-run-none : (c : List ℕ) (f : ℕ → Bool) (is : List ℕ) → Each (Empty c f) is → runOf c f is ≡ []
-run-none c f [] e = unfold runOf in refl
-run-none c f (i ∷ is) e = run-skip c f i is (e .0) ∙ run-none c f is (e .1)
-
-start-none : (c : List ℕ) (f : ℕ → Bool) (is : List ℕ) → Each (Empty c f) is → runStartOf c f is ≡ 0
-start-none c f [] e = unfold runStartOf in refl
-start-none c f (i ∷ is) e = start-skip c f i is (e .0) ∙ start-none c f is (e .1)
-
-run-behind : (c : List ℕ) (f : ℕ → Bool) (is js : List ℕ) → Each (Empty c f) js → runOf c f (is ++ js) ≡ runOf c f is
-unfolding runOf
-run-behind c f [] js e = run-none c f js e
-run-behind c f (i ∷ is) js e = go (keep f (pairs (place c i))) (run-behind c f is js e)
-  where
-    go :
-        (ks : List ℕ) → runOf c f (is ++ js) ≡ runOf c f is →
-        _≡_ {A = List ℕ} (elim ks [ [] ↦ runOf c f (is ++ js) | x ∷ xs ↦ map position (x ∷ xs) ]) (elim ks [ [] ↦ runOf c f is | x ∷ xs ↦ map position (x ∷ xs) ])
-    go [] ih = ih
-    go (x ∷ xs) ih = refl
-
-start-behind : (c : List ℕ) (f : ℕ → Bool) (is js : List ℕ) → Each (Empty c f) js → runStartOf c f (is ++ js) ≡ runStartOf c f is
-unfolding runStartOf
-start-behind c f [] js e = start-none c f js e
-start-behind c f (i ∷ is) js e = go (keep f (pairs (place c i))) (start-behind c f is js e)
-  where
-    here : ℕ
-    here = placeAt entryWidth c i + wordsBefore f (place c i) 0 0
-
-    go :
-        (ks : List ℕ) → runStartOf c f (is ++ js) ≡ runStartOf c f is →
-        _≡_ {A = ℕ} (elim ks [ [] ↦ runStartOf c f (is ++ js) | x ∷ xs ↦ here ]) (elim ks [ [] ↦ runStartOf c f is | x ∷ xs ↦ here ])
-    go [] ih = ih
-    go (x ∷ xs) ih = refl
-
 kept-none : (c : List ℕ) (f : ℕ → Bool) (is : List ℕ) → Each (Empty c f) is → keep f (pairsAt c is) ≡ []
 unfolding pairsAt keep
 kept-none c f [] e = refl
@@ -157,8 +103,8 @@ kept-none c f (i ∷ is) e = keep-append f (pairs (place c i)) (pairsAt c is) �
 -- the places is, with js in the middle, the others being empty
 pub record Same (c : List ℕ) (f : ℕ → Bool) (is js : List ℕ) : Type 0 where
   pub kept : keep f (pairsAt c is) ≡ keep f (pairsAt c js)
-  pub run : runOf c f is ≡ runOf c f js
-  pub start : runStartOf c f is ≡ runStartOf c f js
+  pub run : (none : List ℕ) → runOf c f is none ≡ runOf c f js none
+  pub start : (none : ℕ) → runStartOf c f is none ≡ runStartOf c f js none
 
 same-middle : (c : List ℕ) (f : ℕ → Bool) (xs js ys : List ℕ) → Each (Empty c f) xs → Each (Empty c f) ys → Same c f (xs ++ (js ++ ys)) js
 same-middle c f xs js ys e g =
@@ -166,9 +112,14 @@ same-middle c f xs js ys e g =
       kept =
           rw (pairsAt-append c xs (js ++ ys), pairsAt-append c js ys, keep-append f (pairsAt c xs) (pairsAt c js ++ pairsAt c ys), keep-append f (pairsAt c js) (pairsAt c ys), kept-none c f xs e, kept-none c f ys g)
           (append-nil (keep f (pairsAt c js)));
-      run = run-before c f xs (js ++ ys) e ∙ run-behind c f js ys g;
-      start = start-before c f xs (js ++ ys) e ∙ start-behind c f js ys g;
+      run = middle _;
+      start = middle _;
     }
+  where
+    middle : {A : Type 0} (has : ℕ → A) (none : A) → atFirst c f has (xs ++ (js ++ ys)) none ≡ atFirst c f has js none
+    middle has none =
+        first-append c f has xs (js ++ ys) none ∙ first-none c f has xs _ (kept-none c f xs e)
+        ∙ first-append c f has js ys none ∙ ap (atFirst c f has js) (first-none c f has ys none (kept-none c f ys g))
 
 cut : (is : List ℕ) (a b : ℕ) → a ≤ b → take a is ++ (take (b - a) (drop a is) ++ drop b is) ≡ is
 cut is a b h =
@@ -177,7 +128,7 @@ cut is a b h =
     ∙ ap (λ l. take a is ++ l) (take-append-drop (b - a) (drop a is))
     ∙ take-append-drop a is
 
-pub mapped-order : (c : List ℕ) (a z : ℕ) (is : List ℕ) → a ≤ z → mappedTo c a is ≤ mappedTo c z is
+mapped-order : (c : List ℕ) (a z : ℕ) (is : List ℕ) → a ≤ z → mappedTo c a is ≤ mappedTo c z is
 unfolding mappedTo
 mapped-order c a z [] h = omega arith
 mapped-order c a z (i ∷ is) h =
@@ -193,7 +144,7 @@ mapped-order c a z (i ∷ is) h =
     go true b e g f ih = let l : firstPair c i ≤ a = leb-true (firstPair c i) a e in rw (le-leb (firstPair c i) z (omega arith))
     go false b e g f ih = let l : 0 < mappedTo c a is = ltb-true 0 (mappedTo c a is) (g ∙ f) in or-intro (leb (firstPair c i) z) (ltb 0 (mappedTo c z is)) (inr (lt-ltb 0 (mappedTo c z is) (omega arith)))
 
-pub mapped-most : (c : List ℕ) (z : ℕ) (is : List ℕ) → mappedTo c z is ≤ length is
+mapped-most : (c : List ℕ) (z : ℕ) (is : List ℕ) → mappedTo c z is ≤ length is
 unfolding mappedTo
 mapped-most c z [] = omega arith
 mapped-most c z (i ∷ is) = go (leb (firstPair c i) z || ltb 0 (mappedTo c z is)) (mapped-most c z is)
@@ -216,7 +167,7 @@ sound-live c (i ∷ is) s =
     (and-left (formed (place c i)) (eqb (firstPair c i) (getD (pairs (place c i)) 0 0)) whole, sound-live c is (and-right (formed (place c i) && eqb (firstPair c i) (getD (pairs (place c i)) 0 0)) (blocksSound c is) s))
 
 -- the span of a segment
-module _ (c : List ℕ) (start len t a z after : ℕ) (g : Segment c start len) (h : a ≤ z) where
+module _ (c : List ℕ) (k : Configuration) (start len t a z after : ℕ) (g : Segment c k start len) (h : a ≤ z) where
   abbrev is : List ℕ
   is = around (placeCount c) start len
 
@@ -231,9 +182,6 @@ module _ (c : List ℕ) (start len t a z after : ℕ) (g : Segment c start len) 
 
   most : read ≤ len
   most = rw length-around at (mapped-most c (rank t z) is)
-
-  pub span-most : skipped ≤ read × (read ≤ len)
-  span-most = (order, most)
 
   places : placesOf c (spanned c start len t a z after) ≡ take (read - skipped) (drop skipped is)
   unfolding spanned span
@@ -251,15 +199,16 @@ module _ (c : List ℕ) (start len t a z after : ℕ) (g : Segment c start len) 
   pub span-ready : Ready c (spanned c start len t a z after)
   span-ready =
       record {
-        shape = λ q. g .shape;
-        within = λ q. unfold spanned in mod-lt (start + skipped) (omega (arith, g .shape .countLow));
+        shape = λ q. g .ordered .shaped;
+        within = λ q. unfold spanned in mod-lt (start + skipped) (omega (arith, g .ordered .shaped .countLow));
         live = rw places (Each-take (λ i. formed (place c i) ≡ true) (read - skipped) (drop skipped is) (Each-drop (λ i. formed (place c i) ≡ true) skipped is (sound-live c is (g .sound))));
       }
 
--- what the code answers is the span
-pub spanned-is :
-    (c : List ℕ) (start len t a z after : ℕ) {skip read : ℕ} → skip ≡ mappedTo c (rank t a) (around (placeCount c) start len) - 1 →
-    read ≡ mappedTo c (rank t z) (around (placeCount c) start len) →
-    record { place = (start + skip) % placeCount c; blocks = read - skip; after = after } ≡ spanned c start len t a z after
-unfolding spanned span
-spanned-is c start len t a z after e f = rw (e, f)
+-- what the code answers, by two searches of the map, is the span
+module _ {c : List ℕ} {k : Configuration} {start len i m j skip read : ℕ} (t a z : ℕ) (g : Segment c k start len) (h : a ≤ z) (ei : i ≡ rank t a) (em : m ≡ mappedTo c i (around (placeCount c) start len)) (es : skip ≡ m - 1) (ej : j ≡ rank t z) (er : read ≡ mappedTo c j (around (placeCount c) start len)) where
+  pub skips-at-most : skip ≤ read
+  skips-at-most = rw (es, em, ei, er, ej) (order c k start len t a z 0 g h)
+
+  pub spanned-is : {p : ℕ} (after : ℕ) → p ≡ placeOn (k .places) start skip → record { place = p; blocks = read - skip; after = after } ≡ spanned c start len t a z after
+  unfolding spanned span
+  spanned-is after q = rw (q, place-on (g .ordered) start skip, es, em, ei, er, ej)
