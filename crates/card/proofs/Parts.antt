@@ -58,6 +58,12 @@ pub word-sets-before : (ws l : List ℕ) (p i : ℕ) → i < p → getD (sets l 
 word-sets-before ws l p i h =
     sym (getD-take p (sets l p ws) i 0 h) ∙ ap (λ x. getD x i 0) (part-sets-before ws l p 0 p (omega arith)) ∙ getD-take p l i 0 h
 
+-- Words written before a word leave it.
+pub word-sets-after : (ws l : List ℕ) (p i : ℕ) → p + length ws ≤ i → getD (sets l p ws) i 0 ≡ getD l i 0
+word-sets-after ws l p i h =
+    let z : i + 0 ≡ i = omega arith in
+    rw z at (sym (getD-drop i (sets l p ws) 0 0) ∙ ap (λ x. getD x 0 0) (part-sets-after ws l i p h) ∙ getD-drop i l 0 0)
+
 -- The part that was written reads as the words.
 pub part-sets-same : (ws l : List ℕ) (p : ℕ) → p + length ws ≤ length l → take (length ws) (drop p (sets l p ws)) ≡ ws
 part-sets-same ws l p h =

@@ -17,7 +17,7 @@ use Rattle.card.specs.Sound.{judged}
 use Rattle.card.proofs.Facts.{facts}
 use Rattle.card.proofs.Live.{live-rising}
 use Rattle.batch.specs.Batch.{batchNumber}
-use Rattle.update.specs.Step.{stepNumber, taken, step}
+use Rattle.update.specs.Step.{stepNumber, taken, refused, step}
 use Rattle.update.proofs.Steps.{step-taken, step-refused, step-number}
 use Rattle.lookup.specs.Found.{found, questionNumber, lookupNumber, lookup}
 use Rattle.lookup.proofs.Answers.{lookup-asked, lookup-found, lookup-number}
@@ -43,7 +43,7 @@ lookup-admitted c t a z answer s =
 -- A step that made the third write finished exactly where the history does not go on.
 pub step-finishes :
     (c b : List ℕ) (h : History) → Keeping c h → step c b .write ≡ 3 → step c b .finished ≡ not (goesOn (h .size) (toWrite b h))
-unfolding taken
+unfolding taken refused
 step-finishes c b h k = go (eqb (stepNumber c b) 0) refl
   where
     go : (t : Bool) → eqb (stepNumber c b) 0 ≡ t → step c b .write ≡ 3 → step c b .finished ≡ not (goesOn (h .size) (toWrite b h))

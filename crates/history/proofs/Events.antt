@@ -9,16 +9,16 @@ use lib.Seq.{sets}
 use lib.Dec.{eqb}
 use borrow.Author.Tests.{eqb-true}
 use Rattle.pair.specs.Rank.{Words}
-use Rattle.card.specs.Layout.{blockSize, entryWidth, entryAt, placeAt, formatNumber, formatted}
+use Rattle.card.specs.Layout.{entryAt, placeAt, formatNumber, formatted}
 use Rattle.pair.proofs.Words.{words-take, words-append, words-zeros, words-sets}
 use Rattle.card.proofs.Facts.{Facts, facts}
 use Rattle.card.proofs.Formatted.{formatted-refused}
-use Rattle.update.specs.Step.{remains, duePlace, nextWrite, written, stepNumber, taken, step}
+use Rattle.update.specs.Step.{withWrite, remains, duePlace, dueBlock, dueEntry, nextWrite, theWrite, stepNumber, taken, refused, step}
 use Rattle.update.proofs.Grown.{Remaining, Ready}
 use Rattle.update.proofs.Next.{remaining}
 use Rattle.update.proofs.Steps.{Accepted, accepted, step-taken, step-refused}
-use Rattle.update.proofs.Writes.{three, alike-duePlace, alike-dueEntry, written-first-alike, written-second-alike, written-first-words, written-second-words}
-use Rattle.history.specs.History.{History, started, landed, Event, stepped, cut, looked, restarted, formats, just, torn, after, Report, nothing, tells, told, OfWords}
+use Rattle.update.proofs.Writes.{written, length-due-block, length-due-entry, three, alike-duePlace, alike-dueEntry, written-first-alike, written-second-alike, written-first-words, written-second-words}
+use Rattle.history.specs.History.{History, started, landed, Event, stepped, cut, looked, restarted, formats, just, tornWrite, torn, after, Report, nothing, tells, told, OfWords}
 use Rattle.history.proofs.Keeping.{Keeping, keeping-alike, keeping-formatted, keeping-landed}
 
 pub length-just : (n : ℕ) (ws : List ℕ) → length (just n ws) ≤ n
@@ -44,7 +44,6 @@ module _ (c b : List ℕ) (h : History) (k : Keeping c h) (wb : Words b) (z : st
 
   -- The write of a step that is not refused.
   keeping-written : Keeping (written c r (nextWrite c r)) (cond (eqb (nextWrite c r) 3) (landed b h) h)
-  unfolding written
   keeping-written =
       three c r (λ w. Keeping (written c r w) (cond (eqb w 3) (landed b h) h))
       (λ some. keeping-alike c (written c r 1) h k (written-first-alike c r f) (written-first-words c r f (k .words) (m .proper)))
@@ -54,27 +53,27 @@ module _ (c b : List ℕ) (h : History) (k : Keeping c h) (wb : Words b) (z : st
   -- The same write, cut.
   keeping-cut :
       (ws : List ℕ) (l : Bool) → Words ws →
-      Keeping (cond (eqb (nextWrite c r) 1) (sets c (placeAt entryWidth c (duePlace c)) (just (blockSize c) ws))
-      (cond (eqb (nextWrite c r) 2) (sets c (entryAt entryWidth (duePlace c)) (just entryWidth ws)) (cond l (written c r (nextWrite c r)) c)))
+      Keeping (cond (eqb (nextWrite c r) 3) (cond l (written c r (nextWrite c r)) c) (withWrite c (tornWrite (theWrite c r (nextWrite c r)) ws)))
       (cond (eqb (nextWrite c r) 3 && l) (landed b h) h)
-  unfolding written
+  unfolding theWrite tornWrite
   keeping-cut ws l wd =
-      three c r (λ w. Keeping (cond (eqb w 1) (sets c (placeAt entryWidth c (duePlace c)) (just (blockSize c) ws))
-      (cond (eqb w 2) (sets c (entryAt entryWidth (duePlace c)) (just entryWidth ws)) (cond l (written c r w) c)))
-      (cond (eqb w 3 && l) (landed b h) h))
-      (λ some. keeping-alike c _ h k (alike-duePlace c (just (blockSize c) ws) f (length-just (blockSize c) ws))
-      (words-sets (just (blockSize c) ws) c (placeAt entryWidth c (duePlace c)) (k .words) (words-just (blockSize c) ws wd)))
-      (λ some placed. keeping-alike c _ h k (alike-dueEntry c (just entryWidth ws) f (length-just entryWidth ws))
-      (words-sets (just entryWidth ws) c (entryAt entryWidth (duePlace c)) (k .words) (words-just entryWidth ws wd)))
+      three c r (λ w. Keeping (cond (eqb w 3) (cond l (written c r w) c) (withWrite c (tornWrite (theWrite c r w) ws))) (cond (eqb w 3 && l) (landed b h) h))
+      (λ some. keeping-alike c _ h k (alike-duePlace c (torn-words (dueBlock c r)) f (omega (arith, length-due-block c r, length-just (length (dueBlock c r)) ws)))
+      (words-sets (torn-words (dueBlock c r)) c (placeAt c (duePlace c)) (k .words) (words-just (length (dueBlock c r)) ws wd)))
+      (λ some placed. keeping-alike c _ h k (alike-dueEntry c (torn-words (dueEntry r)) f (omega (arith, length-due-entry c r, length-just (length (dueEntry r)) ws)))
+      (words-sets (torn-words (dueEntry r)) c (entryAt c (duePlace c)) (k .words) (words-just (length (dueEntry r)) ws wd)))
       (λ ready. go l ready)
     where
+      torn-words : List ℕ → List ℕ
+      torn-words es = just (length es) ws
+
       go : (t : Bool) → (0 < length r → Ready c r) → Keeping (cond t (written c r 3) c) (cond t (landed b h) h)
       go true ready = keeping-landed c b h k m ready (a .free)
       go false ready = k
 
 -- A step, refused or not.
 pub keeping-stepped : (c b : List ℕ) (h : History) → Keeping c h → Words b → Keeping (step c b .card) (cond (eqb (step c b .write) 3) (landed b h) h)
-unfolding taken
+unfolding taken refused
 keeping-stepped c b h k wb = go (eqb (stepNumber c b) 0) refl
   where
     go : (t : Bool) → eqb (stepNumber c b) 0 ≡ t → Keeping (step c b .card) (cond (eqb (step c b .write) 3) (landed b h) h)
@@ -84,16 +83,12 @@ keeping-stepped c b h k wb = go (eqb (stepNumber c b) 0) refl
 -- A cut step, refused or not.
 pub keeping-torn :
     (c b ws : List ℕ) (l : Bool) (h : History) → Keeping c h → Words b → Words ws → Keeping (torn c b ws l) (cond (eqb (step c b .write) 3 && l) (landed b h) h)
-unfolding taken torn
+unfolding taken refused torn tornWrite just
 keeping-torn c b ws l h k wb wd = go (eqb (stepNumber c b) 0) refl
   where
     go : (t : Bool) → eqb (stepNumber c b) 0 ≡ t → Keeping (torn c b ws l) (cond (eqb (step c b .write) 3 && l) (landed b h) h)
     go true e = let z = eqb-true (stepNumber c b) 0 e in rw (step-taken c b z) (keeping-cut c b h k wb z ws l wd)
-    go false e = rw (step-refused c b e) (stays l)
-      where
-        stays : (t : Bool) → Keeping (cond t c c) h
-        stays true = k
-        stays false = k
+    go false e = rw (step-refused c b e) k
 
 -- A call of the formatter, refused or not.
 pub keeping-formats :

@@ -8,12 +8,13 @@ use lib.ListN.{length}
 use Rattle.pair.specs.Rank.{term, position, Words}
 use Rattle.pair.proofs.Order.{term-rank, position-rank, rank-term-position}
 use Rattle.block.specs.Block.{due, goesOn}
-use Rattle.card.specs.Layout.{word, blockSize, boundary, live, formatNumber, formatted}
+use Rattle.card.specs.Layout.{word, blockSize, boundaryTerm, boundaryPosition, boundary, live, formatNumber, formatted}
 use Rattle.card.specs.Sound.{judged}
 use Rattle.card.proofs.Facts.{Facts, facts}
 use Rattle.card.proofs.Formatted.{formatted-word, formatted-term, formatted-position, formatted-sound, formatted-live, formatted-words}
 use Rattle.card.proofs.Frame.{Alike, word-alike, live-alike, judged-alike}
-use Rattle.update.specs.Step.{remains, nextBoundary, configuration, crowded}
+use Rattle.update.specs.Step.{remains, nextBoundary, crowded}
+use Rattle.update.proofs.Writes.{written}
 use Rattle.update.proofs.Configuration.{nextBoundary-on, nextBoundary-end, live-on, live-end}
 use Rattle.update.proofs.Grown.{Remaining, Ready}
 use Rattle.update.proofs.Settled.{configuration-sound, configuration-words, configuration-size, configuration-term, configuration-position}
@@ -25,8 +26,8 @@ pub record Keeping (c : List ℕ) (h : History) : Type 0 where
   pub sound : judged c ≡ 0
   pub words : Words c
   pub index : live c ≡ h .pairs
-  pub markTerm : word c 6 ≡ term (h .mark)
-  pub markPosition : word c 7 ≡ position (h .mark)
+  pub markTerm : boundaryTerm c ≡ term (h .mark)
+  pub markPosition : boundaryPosition c ≡ position (h .mark)
   pub size : blockSize c ≡ h .size
 
 pub keeping-boundary : (c : List ℕ) (h : History) → Keeping c h → boundary c ≡ h .mark
@@ -96,11 +97,11 @@ module _ (c b : List ℕ) (h : History) (k : Keeping c h) (m : Remaining c (rema
   unfolding next
   keeping-next = rw (keeping-remains c b h k, k .size)
 
-  landed-pairs : live (configuration c r) ≡ landed b h .pairs
+  landed-pairs : live (written c r 3) ≡ landed b h .pairs
   unfolding landed
   landed-pairs = go (goesOn (blockSize c) r) refl
     where
-      go : (t : Bool) → goesOn (blockSize c) r ≡ t → live (configuration c r) ≡ landed b h .pairs
+      go : (t : Bool) → goesOn (blockSize c) r ≡ t → live (written c r 3) ≡ landed b h .pairs
       go true on = live-on c r f m ready on ∙ rw (sym keeping-goesOn ∙ on, keeping-boundary c h k, keeping-next, k .index)
       go false end = live-end c r f m ready end ∙ rw (sym keeping-goesOn ∙ end, keeping-boundary c h k, keeping-remains c b h k, k .index)
 
@@ -113,7 +114,7 @@ module _ (c b : List ℕ) (h : History) (k : Keeping c h) (m : Remaining c (rema
       go false end = nextBoundary-end c r f m ready end ∙ rw (sym keeping-goesOn ∙ end)
 
   -- A configuration write keeps the card to its history.
-  pub keeping-landed : Keeping (configuration c r) (landed b h)
+  pub keeping-landed : Keeping (written c r 3) (landed b h)
   keeping-landed =
       record {
         sound = configuration-sound c r f m ready free;

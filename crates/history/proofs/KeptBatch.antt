@@ -17,7 +17,7 @@ use Rattle.batch.proofs.Meaning.{applied-twice}
 use Rattle.card.specs.Layout.{newLength, boundary, around, pairsAt, live, formatNumber}
 use Rattle.card.proofs.Facts.{Facts, facts}
 use Rattle.card.proofs.Live.{live-rising}
-use Rattle.update.specs.Step.{stepNumber, taken, step}
+use Rattle.update.specs.Step.{stepNumber, taken, refused, step}
 use Rattle.update.proofs.Steps.{accepted, step-taken, step-refused}
 use Rattle.history.specs.History.{History, toWrite, landed, Event, stepped, cut, looked, restarted, formats, after, tells, told, AllOfWords}
 use Rattle.history.specs.Claims.{Lends, Keeps, ran, finishing, finished, KeptBatch}
@@ -28,7 +28,7 @@ use Rattle.history.proofs.Kept.{Kept, kept-start, kept-on, kept-again, 
 
 -- A step that did not make the third write has not finished.
 pub step-unfinished : (c b : List ℕ) → eqb (step c b .write) 3 ≡ false → step c b .finished ≡ false
-unfolding taken
+unfolding taken refused
 step-unfinished c b = go (eqb (stepNumber c b) 0) refl
   where
     go : (t : Bool) → eqb (stepNumber c b) 0 ≡ t → eqb (step c b .write) 3 ≡ false → step c b .finished ≡ false
@@ -37,6 +37,7 @@ step-unfinished c b = go (eqb (stepNumber c b) 0) refl
 
 -- A step that has finished had a batch in order.
 pub finished-ordered : (c b : List ℕ) → step c b .finished ≡ true → batchNumber b ≡ 0
+unfolding refused
 finished-ordered c b f = go (eqb (stepNumber c b) 0) refl
   where
     go : (t : Bool) → eqb (stepNumber c b) 0 ≡ t → batchNumber b ≡ 0

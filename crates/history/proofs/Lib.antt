@@ -13,3 +13,4 @@ pub mod Sharp
 pub mod SmallCards
 pub mod StepByStep
 pub mod Yields
+pub mod WriteStands

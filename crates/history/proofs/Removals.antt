@@ -1,6 +1,7 @@
 -- With a removals-only batch, kept throughout, number 8 never occurs if two places were free at its first step.
 use Prim.Native.Nat.{ℕ}
 use native.Mathlib.Omega.{arith}
+use lib.ListN.{length}
 use mathlib.Core.Path.{_≡_}
 use mathlib.Core.Bool.{Bool, true, false, cond}
 use mathlib.Core.List.{List, [], _∷_}
@@ -9,18 +10,18 @@ use lib.Seq.{sets}
 use lib.Dec.{eqb}
 use borrow.Author.Tests.{ne-eqb}
 use Rattle.pair.specs.Rank.{Words}
-use Rattle.card.specs.Layout.{blockSize, placeCount, oldLength, entryWidth, entryAt, placeAt, formatNumber}
+use Rattle.card.specs.Layout.{placeCount, oldLength, formatNumber}
 use Rattle.card.specs.Sound.{judged}
 use Rattle.card.proofs.Circle.{length-around}
 use Rattle.card.proofs.Facts.{Facts, facts}
 use Rattle.card.proofs.Formatted.{formatted-refused}
 use Rattle.batch.specs.Batch.{batchNumber}
-use Rattle.update.specs.Step.{remains, duePlace, nextWrite, written, stepNumber, taken, step}
+use Rattle.update.specs.Step.{withWrite, remains, dueBlock, dueEntry, nextWrite, theWrite, stepNumber, taken, step}
 use Rattle.update.proofs.Crowded.{Removals}
 use Rattle.update.proofs.Roomy.{Roomy, roomy-alike, roomy-configuration, roomy-number, roomy-written}
 use Rattle.update.proofs.Steps.{step-taken}
-use Rattle.update.proofs.Writes.{three, alike-duePlace, alike-dueEntry}
-use Rattle.history.specs.History.{History, Event, stepped, cut, looked, restarted, formats, just, torn, after, tells, told, AllOfWords}
+use Rattle.update.proofs.Writes.{written, length-due-block, length-due-entry, three, alike-duePlace, alike-dueEntry}
+use Rattle.history.specs.History.{History, Event, stepped, cut, looked, restarted, formats, just, tornWrite, torn, after, tells, told, AllOfWords}
 use Rattle.history.specs.Claims.{Lends, Keeps, ran, freePlaces, RemovalsNeverFull}
 use Rattle.history.proofs.Keeping.{Keeping, itself, keeping-itself}
 use Rattle.history.proofs.Events.{length-just, keeping-after}
@@ -36,19 +37,19 @@ module _ (c b : List ℕ) (f : Facts c) (j : judged c ≡ 0) (w : Words c) (n : 
 
   -- so does a cut step
   roomy-torn : (ws : List ℕ) (l : Bool) → Roomy b (torn c b ws l)
-  unfolding torn taken written
+  unfolding torn taken theWrite tornWrite
   roomy-torn ws l =
       rw taking
-      (three c r P (λ some. roomy-alike b c _ (alike-duePlace c (just (blockSize c) ws) f (length-just (blockSize c) ws)) h)
-      (λ some placed. roomy-alike b c _ (alike-dueEntry c (just entryWidth ws) f (length-just entryWidth ws)) h)
+      (three c r P
+      (λ some. roomy-alike b c _ (alike-duePlace c (just (length (dueBlock c r)) ws) f (omega (arith, length-due-block c r, length-just (length (dueBlock c r)) ws))) h)
+      (λ some placed. roomy-alike b c _ (alike-dueEntry c (just (length (dueEntry r)) ws) f (omega (arith, length-due-entry c r, length-just (length (dueEntry r)) ws))) h)
       (λ ready. lands l))
     where
       r : List ℕ
       r = remains c b
 
       P : ℕ → Type 0
-      P x = Roomy b (cond (eqb x 1) (sets c (placeAt entryWidth c (duePlace c)) (just (blockSize c) ws))
-          (cond (eqb x 2) (sets c (entryAt entryWidth (duePlace c)) (just entryWidth ws)) (cond l (written c r x) c)))
+      P x = Roomy b (cond (eqb x 3) (cond l (written c r x) c) (withWrite c (tornWrite (theWrite c r x) ws)))
 
       lands : (t : Bool) → Roomy b (cond t (written c r 3) c)
       lands true = roomy-configuration b c f w o h

@@ -14,7 +14,7 @@ use Rattle.card.specs.Sound.{judged}
 use Rattle.card.proofs.Facts.{facts}
 use Rattle.card.proofs.Live.{live-rising}
 use Rattle.batch.specs.Batch.{updates}
-use Rattle.update.specs.Step.{remains, nextWrite, written, stepNumber, taken, step}
+use Rattle.update.specs.Step.{remains, nextWrite, theWrite, stepNumber, taken, refused, step}
 use Rattle.update.proofs.Grown.{Ready}
 use Rattle.update.proofs.Next.{remains-next}
 use Rattle.update.proofs.Steps.{accepted, step-taken, step-refused}
@@ -56,7 +56,7 @@ ready : (c r : List ℕ) → nextWrite c r ≡ 3 → 0 < length r → Ready c r
 ready c r = three c r (λ w. w ≡ 3 → 0 < length r → Ready c r) (λ h e. absurd (omega arith)) (λ h p e. absurd (omega arith)) (λ z e. z)
 
 pub remainsNext : RemainsNext
-unfolding RemainsNext taken written
+unfolding RemainsNext taken refused theWrite
 remainsNext c b wc wb = go (eqb (stepNumber c b) 0) refl
   where
     go : (t : Bool) → eqb (stepNumber c b) 0 ≡ t → step c b .write ≡ 3 → step c b .finished ≡ false →

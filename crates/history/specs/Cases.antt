@@ -7,7 +7,7 @@ use lib.ListN.{length, take, replicate}
 use lib.Dec.{eqb}
 use Rattle.pair.specs.Rank.{rank}
 use Rattle.pair.specs.Tests.{same}
-use Rattle.card.specs.Layout.{entryWidth, cardLength, place, live, formatted}
+use Rattle.card.specs.Layout.{widthOf, cardLength, place, live, formatted}
 use Rattle.update.specs.Step.{step}
 use Rattle.lookup.specs.Found.{lookup}
 
@@ -59,7 +59,7 @@ allSeen (r ∷ rs) = seen (r .0) (r .1) && allSeen rs
 
 -- a card of n places of 8 words, zeros, just formatted
 unfoldable pub fresh : ℕ → List ℕ
-fresh n = formatted (replicate (cardLength entryWidth 8 n) 0) 8 n
+fresh n = formatted (replicate (cardLength (widthOf 1) 8 n) 0) 8 n
 
 -- the batches: P1's additions (5,2), (5,9), (7,4); the later ones
 abbrev pub three : List ℕ

@@ -1,16 +1,18 @@
 -- What is claimed of the definitions, each as a type that a theorem inhabits.
-use Prim.Native.Nat.{ℕ, _+_, _-_, _≤_}
+use Prim.Native.Nat.{ℕ, _+_, _-_, _≤_, _<_}
 use mathlib.Core.Path.{_≡_}
 use mathlib.Core.Bool.{Bool, true, false, _&&_, _||_}
+use mathlib.Core.Logic.{_⊎_}
 use mathlib.Core.List.{List, [], _∷_, map}
 use lib.Dec.{eqb}
-use lib.ListN.{take, drop, getD}
+use lib.ListN.{length, take, drop, getD}
 use Rattle.pair.specs.Rank.{rank, Words}
 use Rattle.pair.specs.Rising.{above, atMost}
 use Rattle.block.specs.Block.{fitting}
-use Rattle.card.specs.Layout.{placeCount, oldLength, newLength, blockSize, boundary, oldPlaces, newPlaces, live, formatNumber}
+use Rattle.card.specs.Layout.{word, placeCount, oldLength, newLength, blockSize, boundary, oldPlaces, newPlaces, live, formatNumber}
 use Rattle.card.specs.Sound.{judged}
 use Rattle.batch.specs.Batch.{Update, updates, anyUpdate, applied, batchNumber}
+use Rattle.update.specs.Span.{writeSpan}
 use Rattle.update.specs.Step.{remains, stepNumber, step}
 use Rattle.update.specs.Pass.{stepLimit, finishesWithin, refusedWithin}
 use Rattle.lookup.specs.Found.{questionNumber, blocksRead, holders, lookup}
@@ -105,6 +107,16 @@ unfoldable pub RemainsNext : Type 0
 RemainsNext =
     (c b : List ℕ) → Words c → Words b → step c b .write ≡ 3 → step c b .finished ≡ false →
     remains (step c b .card) b ≡ drop (fitting (blockSize c) 0 (remains c b)) (remains c b)
+
+-- in the card that a step leaves, the write that it names stands where the step made its write; no other word has changed
+unfoldable pub WriteStands : Type 0
+WriteStands =
+    (c b : List ℕ) → Words c → Words b →
+    let s = step c b in
+    let p = writeSpan (s .card) (s .write) in
+    (s .number ≡ 0 → (p .number ≡ 0) × (p .start ≡ s .made .start) × (p .count ≡ length (s .made .words)))
+    × (length (s .card) ≡ length c)
+    × ((i : ℕ) → (i < p .start) ⊎ (p .start + p .count ≤ i) → word (s .card) i ≡ word c i)
 
 -- what the posting reader yields, one posting after another, are the positions that the lookup gives, then the end for ever
 unfoldable pub ReaderYieldsLookup : Type 0

@@ -8,13 +8,13 @@ use Rattle.pair.specs.Rank.{rank}
 use Rattle.pair.specs.Rising.{keep, above, within, risingFrom, insert, last, any}
 use Rattle.pair.specs.Tests.{same, firstOf}
 use Rattle.block.specs.Block.{zeros, pairsFrom, pairs, formedFrom, formed, leading, packedAfter, blockOf, fitting, due, goesOn}
-use Rattle.card.specs.Layout.{firstPair, place, around, pairsAt, live, formatNumber, formatted}
+use Rattle.card.specs.Layout.{widthOf, firstPair, place, around, pairsAt, live, formatNumber, formatted}
 use Rattle.card.specs.Sound.{blocksSound, firstReaches, boundaryWords, segmentsSound, judged}
 use Rattle.batch.specs.Batch.{updates, anyUpdate, adds, removes, withdrawn, withAdded, applied, illFormed, falls, batchNumber}
-use Rattle.update.specs.Step.{remains, duePlace, spent, configured, nextBoundary, freed, grown, configuration, dueBlock, dueEntry, nextWrite, written, crowded, stepNumber, taken, step}
+use Rattle.update.specs.Step.{remains, duePlace, spent, configured, nextBoundary, freed, grown, configuration, dueBlock, dueEntry, nextWrite, theWrite, crowded, stepNumber, taken, refused, step}
 use Rattle.update.specs.Pass.{blocksFrom, blocks, finishesWithin, refusedWithin}
 use Rattle.lookup.specs.Found.{found, mappedTo, span, blocksRead, questionNumber, lookupNumber, lookup}
-use Rattle.history.specs.History.{just, torn}
+use Rattle.history.specs.History.{just, tornWrite, torn}
 use Rattle.history.specs.History as history
 use Rattle.history.specs.Claims.{ran, finishing, finished}
 use Rattle.history.specs.Cases.{after, three, fresh, first, addEightOne, table, allSeen, Cases}
@@ -53,7 +53,7 @@ pub record Computed : Type 0 where
   pub index : live (ran card keepsThree) ≡ rank 5 2 ∷ rank 5 9 ∷ rank 7 4 ∷ []
 
 pub computed : Computed
-unfolding keep above within risingFrom insert last any same firstOf zeros pairsFrom pairs formedFrom formed leading packedAfter blockOf fitting due goesOn firstPair place around pairsAt live formatNumber formatted blocksSound firstReaches boundaryWords segmentsSound judged updates anyUpdate adds removes withdrawn withAdded applied illFormed falls batchNumber remains duePlace spent configured nextBoundary freed grown configuration dueBlock dueEntry nextWrite written crowded stepNumber taken step found mappedTo span blocksRead questionNumber lookupNumber lookup just torn history.after ran finishing finished after fresh first met meets blocksFrom blocks finishesWithin refusedWithin
+unfolding keep above within risingFrom insert last any same firstOf zeros pairsFrom pairs formedFrom formed leading packedAfter blockOf fitting due goesOn widthOf firstPair place around pairsAt live formatNumber formatted blocksSound firstReaches boundaryWords segmentsSound judged updates anyUpdate adds removes withdrawn withAdded applied illFormed falls batchNumber remains duePlace spent configured nextBoundary freed grown configuration dueBlock dueEntry nextWrite theWrite crowded stepNumber taken refused step found mappedTo span blocksRead questionNumber lookupNumber lookup just tornWrite torn history.after ran finishing finished after fresh first met meets blocksFrom blocks finishesWithin refusedWithin
 computed =
     record {
       p1-blocks = refl;

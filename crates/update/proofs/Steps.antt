@@ -12,7 +12,7 @@ use Rattle.card.specs.Sound.{judged}
 use Rattle.update.specs.declared.StepAnswer.{StepAnswer}
 use Rattle.update.specs.declared.StepAnswer.the-variants.{Refused}
 use Rattle.update.specs.Answer.{answerOf}
-use Rattle.update.specs.Step.{withWrite, remains, crowded, nextWrite, stepNumber, Step, taken, refused, step}
+use Rattle.update.specs.Step.{withWrite, remains, crowded, nextWrite, theWrite, stepNumber, Step, taken, refused, step}
 use Rattle.update.specs.code.Plan.{stepWith}
 
 -- what a step that is not refused was given
@@ -89,3 +89,13 @@ step-writes c b = go (eqb (stepNumber c b) 0)
     go : (t : Bool) → let s = cond t (taken c (remains c b) (nextWrite c (remains c b))) (refused c (stepNumber c b)) in s .card ≡ withWrite c (s .made)
     go true = refl
     go false = refl
+
+-- Its write is the one of the three that it names.
+pub step-made : (c b : List ℕ) → (step c b .write ≡ 0 → ⊥) → step c b .made ≡ theWrite c (remains c b) (step c b .write)
+unfolding step taken refused
+step-made c b = go (eqb (stepNumber c b) 0)
+  where
+    go : (t : Bool) → let s = cond t (taken c (remains c b) (nextWrite c (remains c b))) (refused c (stepNumber c b)) in
+        (s .write ≡ 0 → ⊥) → s .made ≡ theWrite c (remains c b) (s .write)
+    go true h = refl
+    go false h = absurd (h refl)

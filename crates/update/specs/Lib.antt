@@ -1,4 +1,5 @@
 pub mod Answer
 pub mod Pass
+pub mod Span
 pub mod Step
 pub mod code
