@@ -34,31 +34,17 @@ static uint64_t steps_of(const struct progress *done) {
 
 /* ---- the pass */
 
-/* The place after the new segment, around the circle. Writes of a block and of
- * a map entry go there, and leave it where it is. */
-static size_t due_place(const uint32_t *card) {
-    return (card[GI_CONFIG_OLD_START] + card[GI_CONFIG_OLD_LENGTH] + card[GI_CONFIG_NEW_LENGTH]) %
-           card[GI_CONFIG_PLACES];
-}
-
 /* Writes to the file what a step has just written in memory. */
 static int store(const struct card_file *card, uint32_t write, struct progress *done) {
-    size_t block_words = card->words[GI_CONFIG_BLOCK_WORDS];
-    size_t blocks = GI_CONFIG_WORDS + (size_t)GI_MAP_ENTRY_WORDS * card->words[GI_CONFIG_PLACES];
-    size_t due = due_place(card->words);
-    switch (write) {
-    case GI_WRITE_BLOCK:
-        done->blocks++;
-        return card_store(card, blocks + due * block_words, block_words);
-    case GI_WRITE_MAP_ENTRY:
-        done->map_entries++;
-        return card_store(card, GI_CONFIG_WORDS + due * GI_MAP_ENTRY_WORDS, GI_MAP_ENTRY_WORDS);
-    case GI_WRITE_CONFIGURATION:
-        done->configurations++;
-        return card_store(card, 0, GI_CONFIG_WORDS);
-    default:
-        return fault(card->path, "the library named an unknown write, %" PRIu32, write);
-    }
+    size_t start;
+    size_t count;
+    uint32_t number = gi_write_span(card->words, card->length, write, &start, &count);
+    if (number != GI_DONE || count == 0)
+        return fault(card->path, "the library does not tell where its write %" PRIu32 " stands", write);
+    done->blocks += write == GI_WRITE_BLOCK;
+    done->map_entries += write == GI_WRITE_MAP_ENTRY;
+    done->configurations += write == GI_WRITE_CONFIGURATION;
+    return card_store(card, start, count);
 }
 
 /* Shows on one line of a terminal how far the pass is. */

@@ -110,6 +110,16 @@ uint32_t gi_judge(const uint32_t *card, size_t card_len);
 uint32_t gi_step(uint32_t *card, size_t card_len, const uint32_t *batch, size_t batch_len, uint32_t *write,
                  uint32_t *freed, uint32_t *finished);
 
+/* Tells where a write of gi_step stands in the card that the step left: in the
+ * count words from card[start] on, and in no other word has that step changed
+ * the card. These are the B words of the due place for write 1, its two map words
+ * for write 2, the 8 configuration words for write 3; for any other write start
+ * and count are 0.
+ *
+ * Gives the judge's number for a card that is not sound; start and count are then
+ * 0. Gives 0 otherwise. Writes nothing to the card. */
+uint32_t gi_write_span(const uint32_t *card, size_t card_len, uint32_t write, size_t *start, size_t *count);
+
 /* Looks up the positions of a term from from to to, both included. They come
  * rising in the first answer words, their number in found; other answer words
  * are left as they are. blocks is the number of blocks that the map names for

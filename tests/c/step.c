@@ -1,5 +1,5 @@
 /* Tests of gi_step: the small cases with every figure, passes around the circle,
- * the batch's limits, and the refusals. */
+ * the batch's limits, and the refusals. And of gi_write_span, after each step. */
 #include "small_cards.h"
 
 /* What a step answers. */
@@ -15,6 +15,39 @@ struct answer {
 #define NO_RECORDS (const uint32_t[]){UNUSED}, 0
 #define ADD(term, position) GI_RECORD_ADD, term, position, position
 #define REMOVE(term, from, to) GI_RECORD_REMOVE, term, from, to
+
+/* Sees that a write stands at count words from start on in a card. */
+static void span_is(const uint32_t *card, size_t length, uint32_t write, uint32_t number, size_t start, size_t count,
+                    const char *group, const char *what) {
+    size_t got_start = UNUSED;
+    size_t got_count = UNUSED;
+    check_number(gi_write_span(card, length, write, &got_start, &got_count), number, group, what);
+    check(got_start == start && got_count == count, group, what);
+}
+
+/* Sees that the write that a step named stands where its words lie in the card
+ * that it left, and that all other words are as before. Where the layout says
+ * they lie is written out here once more. */
+static void span_holds(const uint32_t *before, const uint32_t *after, size_t length, uint32_t write,
+                       const char *group) {
+    size_t due = (before[3] + before[4] + before[5]) % before[2];
+    size_t start = 0;
+    size_t count = 0;
+    if (write == GI_WRITE_BLOCK) {
+        count = before[1];
+        start = 8 + 2 * before[2] + due * count;
+    } else if (write == GI_WRITE_MAP_ENTRY) {
+        count = 2;
+        start = 8 + due * count;
+    } else if (write == GI_WRITE_CONFIGURATION) {
+        count = 8;
+    }
+    span_is(after, length, write, GI_DONE, start, count, group, "where the write stands");
+    size_t end = start + count;
+    check(end <= length && memcmp(before, after, start * sizeof *after) == 0 &&
+              memcmp(before + end, after + end, (length - end) * sizeof *after) == 0,
+          group, "the words around the write are as before");
+}
 
 /* Makes one step on a copy of a card, with a word on either side that must
  * stand, and sees that its answer and every word are the expected ones. */
@@ -36,6 +69,8 @@ static void step_on(const uint32_t *card, size_t length, const uint32_t *batch, 
         check(memcmp(memory + 1, after, length * sizeof *after) == 0, group, what);
         check(memory[0] == UNUSED && memory[length + 1] == UNUSED, group, "the words beside the card stand");
         check(memcmp(records, batch, batch_length * sizeof *batch) == 0, group, "the batch stands");
+        if (got.number == GI_DONE)
+            span_holds(card, memory + 1, length, got.write, group);
     }
     free(memory);
     free(records);
@@ -318,6 +353,26 @@ static void wrong_cards(void) {
     step_refused(changed(card, map_word(0, 1), 3), BATCH_1, 4, group, "number 4, a good batch");
 }
 
+static void wrong_spans(void) {
+    const char *group = "no write stands";
+    struct card card = case1();
+    static const uint32_t writes[] = {0, 1, 2, 3, 4, UINT32_MAX};
+    for (size_t i = 0; i < sizeof writes / sizeof *writes; i++) {
+        uint32_t write = writes[i];
+        for (size_t length = 0; length < WORDS; length += 5)
+            span_is(card.words, length, write, 1, 0, 0, group, "number 1");
+        span_is(changed(card, GI_CONFIG_FORMAT, 2).words, WORDS, write, 2, 0, 0, group, "number 2");
+        span_is(changed(card, GI_CONFIG_PLACES, 0).words, WORDS, write, 3, 0, 0, group, "number 3");
+        span_is(changed(card, GI_CONFIG_OLD_LENGTH, 4).words, WORDS, write, 3, 0, 0, group, "number 3");
+        span_is(changed(card, map_word(0, 1), 3).words, WORDS, write, 4, 0, 0, group, "number 4");
+        if (write < GI_WRITE_BLOCK || write > GI_WRITE_CONFIGURATION)
+            span_is(card.words, WORDS, write, GI_DONE, 0, 0, group, "a write that is none");
+    }
+    span_is(card.words, WORDS, GI_WRITE_BLOCK, GI_DONE, place_word(1, 0), B, group, "but the block of the due place");
+    span_is(card.words, WORDS, GI_WRITE_MAP_ENTRY, GI_DONE, map_word(1, 0), 2, group, "but its map entry");
+    span_is(card.words, WORDS, GI_WRITE_CONFIGURATION, GI_DONE, 0, 8, group, "but the configuration words");
+}
+
 void test_step(void) {
     case_1();
     cases_2_3();
@@ -330,4 +385,5 @@ void test_step(void) {
     wrong_order();
     full_cards();
     wrong_cards();
+    wrong_spans();
 }

@@ -312,9 +312,43 @@ pub fn step(
     assert!(lent.guards_stand(), "step wrote outside; {}", message());
     let batch_kept = lent_batch.inside() == batch && lent_batch.guards_stand();
     assert!(batch_kept, "step changed its batch; {}", message());
+    span(card, lent.inside(), answer.write, &message);
     steps.note(card, &expected_card, &answer);
     card.copy_from_slice(&expected_card);
     answer
+}
+
+/// Checks where the library says that a write stands in the card that a step left: at the words of
+/// the due place, of its map entry or of the configuration, and no word outside them has changed. Of
+/// other writes, and on a card that is not sound, there are none.
+fn span(before: &[u32], after: &[u32], write: u32, message: &dyn Fn() -> String) {
+    let number = ffi::judge(after);
+    let expected = match (number, write) {
+        (0, 1 | 2) => {
+            let configuration = Configuration::read(before);
+            let place = configuration.due_place();
+            if write == 1 {
+                configuration.block_range(place)
+            } else {
+                configuration.map_range(place)
+            }
+        }
+        (0, 3) => 0..8,
+        _ => 0..0,
+    };
+    let (given, words) = ffi::write_span(after, write);
+    assert_eq!((given, &words), (number, &expected), "{}", message());
+    assert!(
+        before[..words.start] == after[..words.start] && before[words.end..] == after[words.end..],
+        "a step changed words outside its write's; {}",
+        message()
+    );
+    for other in [0, 1, 2, 3, 4, u32::MAX] {
+        if number != 0 || !(1..=3).contains(&other) {
+            let none = (number, 0..0);
+            assert_eq!(ffi::write_span(after, other), none, "{}", message());
+        }
+    }
 }
 
 /// Runs one batch until its pass finishes or a step is refused, each step compared; checks the step

@@ -21,6 +21,13 @@ mod c {
             freed: *mut u32,
             finished: *mut u32,
         ) -> u32;
+        pub fn gi_write_span(
+            card: *const u32,
+            card_len: usize,
+            write: u32,
+            start: *mut usize,
+            count: *mut usize,
+        ) -> u32;
         pub fn gi_lookup(
             card: *const u32,
             card_len: usize,
@@ -97,6 +104,16 @@ pub fn step(card: &mut [u32], batch: &[u32]) -> StepAnswer {
         freed,
         finished: finished == 1,
     }
+}
+
+/// The number, and the words of the card where a write stands.
+pub fn write_span(card: &[u32], write: u32) -> (u32, Range<usize>) {
+    let (mut start, mut count) = (usize::MAX, usize::MAX);
+    // SAFETY: pointer and length are those of one slice lent for reading, and the counts are words
+    // of this call.
+    let number =
+        unsafe { c::gi_write_span(card.as_ptr(), card.len(), write, &mut start, &mut count) };
+    (number, start..start + count)
 }
 
 pub fn lookup(card: &[u32], term: u32, from: u32, to: u32, answer: &mut [u32]) -> LookupAnswer {

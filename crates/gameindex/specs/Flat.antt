@@ -4,6 +4,7 @@ use mathlib.Core.Path.{_≡_}
 use mathlib.Core.Bool.{Bool, cond}
 use mathlib.Core.List.{List}
 use Rattle.update.specs.Step.{Step}
+use Rattle.update.specs.declared.WriteSpan.{WriteSpan}
 use Rattle.lookup.specs.declared.LookupAnswer.{LookupAnswer}
 use Rattle.lookup.specs.Answer.{numberOf, countOf, blocksReadOf}
 use Rattle.lookup.specs.Found.{Lookup}
@@ -18,6 +19,12 @@ pub record Stepped (number write freed finished : ℕ) (card : List ℕ) (s : St
   pub ofFreed : freed ≡ s .freed
   pub ofFinished : finished ≡ flag (s .finished)
   pub ofCard : card ≡ s .card
+
+-- the reply and the numbers filled in are those of where a write stands
+pub record Spanned (number start count : ℕ) (s : WriteSpan) : Type 0 where
+  pub ofNumber : number ≡ s .number
+  pub ofStart : start ≡ s .start
+  pub ofCount : count ≡ s .count
 
 -- the reply and the numbers filled in are those of a lookup's answer
 pub record Filled (number found blocks : ℕ) (answer : LookupAnswer) : Type 0 where

@@ -2,9 +2,10 @@
 ghost use mathlib.Core.Path.{_≡_};
 ghost use Rattle.card.specs.Layout.{formatNumber, formatted};
 ghost use Rattle.card.specs.Sound.{judged};
+ghost use Rattle.update.specs.Span.{writeSpan};
 ghost use Rattle.update.specs.Step.{step};
 ghost use Rattle.pair.specs.Bounds.{lowest, highest};
-ghost use Rattle.gameindex.specs.Flat.{flag, Stepped, Filled, LookedUp};
+ghost use Rattle.gameindex.specs.Flat.{flag, Stepped, Spanned, Filled, LookedUp};
 ghost use Rattle.lookup.specs.Found.{lookup};
 ghost use Rattle.lookup.specs.Views.{Viewed};
 ghost use Rattle.reader.specs.Reader.{read, ReadOff};
@@ -52,6 +53,22 @@ pub extern "C" fn gi_step(
     *freed = update::freed_of(answer);
     *finished = flag(update::finished_of(answer));
     update::number_of(answer)
+}
+
+// Where a write of a step stands in the card that the step left; the reply is the number, 0 where it is done. The first word and the count of words go behind the last two references.
+#[no_mangle]
+pub extern "C" fn gi_write_span(
+    card: &[u32],
+    write: u32,
+    start: &mut usize,
+    count: &mut usize,
+) -> u32
+    ensures { λ r. ⌜ Spanned r (now (start .exit)) (now (count .exit)) (writeSpan (now (card .entry)) write) ⌝ }
+{
+    let span = update::write_span(card, write);
+    *start = span.start;
+    *count = span.count;
+    span.number
 }
 
 // The number of a lookup's answer; the count of positions and of blocks read go behind the references.

@@ -1,25 +1,28 @@
 -- What is claimed of passes, written out.
-use Prim.Native.Nat.{ℕ, _+_, _*_, _-_, _≤_}
+use Prim.Native.Nat.{ℕ, _+_, _*_, _-_, _≤_, _<_}
 use mathlib.Core.Path.{_≡_}
 use mathlib.Core.Bool.{Bool, true, false, cond, _||_, or-false, or-assoc}
+use mathlib.Core.Logic.{inl, inr}
 use mathlib.Core.List.{List, [], _∷_}
 use lib.Dec.{eqb}
-use lib.ListN.{drop}
+use lib.ListN.{length, drop, getD}
 use Rattle.pair.specs.Rank.{Words}
 use Rattle.pair.specs.Rising.{above, atMost}
 use Rattle.block.specs.Block.{fitting}
 use Rattle.card.specs.Layout.{blockSize, placeCount, oldLength, newLength, boundary, live}
 use Rattle.card.specs.Sound.{judged}
 use Rattle.batch.specs.Batch.{updates, anyUpdate, applied, batchNumber}
+use Rattle.update.specs.Span.{writeSpan}
 use Rattle.update.specs.Step.{remains, stepNumber, step}
 use Rattle.update.specs.Pass.{blocks, stepLimit, finishesWithin, refusedWithin}
 use Rattle.history.specs.History.{Event, stepped, cut, looked, restarted, formats, after}
-use Rattle.history.specs.Claims.{Lends, Keeps, ran, freePlaces, finishing, finished, KeptBatch, PassFinishes, EmptyNeverFull, RemovalsNeverFull, MovesPast, RemainsNext}
+use Rattle.history.specs.Claims.{Lends, Keeps, ran, freePlaces, finishing, finished, KeptBatch, PassFinishes, EmptyNeverFull, RemovalsNeverFull, MovesPast, RemainsNext, WriteStands}
 use Rattle.history.proofs.EmptyBatch.{emptyNeverFull}
 use Rattle.history.proofs.KeptBatch.{keptBatch}
 use Rattle.history.proofs.PassEnds.{passFinishes}
 use Rattle.history.proofs.Removals.{removalsNeverFull}
 use Rattle.history.proofs.StepByStep.{movesPast, remainsNext}
+use Rattle.history.proofs.WriteStands.{writeStands}
 use Rattle.pins.specs.Lists.{wordsOf, Throughout}
 use Rattle.pins.proofs.Demand3.{given}
 
@@ -88,3 +91,15 @@ pub remains-beyond :
     remains (step c b .card) b ≡ drop (fitting (blockSize c) 0 (remains c b)) (remains c b)
 unfolding RemainsNext
 remains-beyond = remainsNext
+
+-- in the card that a step leaves, the write that it names stands where the step made its write; the length and every word before and after it are as before
+pub write-stands :
+    (c b : List ℕ) → Words c → Words b →
+    let d = step c b .card in
+    let p = writeSpan d (step c b .write) in
+    (step c b .number ≡ 0 → (p .number ≡ 0) × (p .start ≡ step c b .made .start) × (p .count ≡ length (step c b .made .words)))
+    × (length d ≡ length c)
+    × ((i : ℕ) → i < p .start → getD d i 0 ≡ getD c i 0)
+    × ((i : ℕ) → p .start + p .count ≤ i → getD d i 0 ≡ getD c i 0)
+unfolding WriteStands
+write-stands c b wc wb = let s = writeStands c b wc wb in (s .0, s .1, (λ i h. s .2 i (inl h)), λ i h. s .2 i (inr h))

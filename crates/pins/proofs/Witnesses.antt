@@ -11,7 +11,7 @@ use Rattle.pair.specs.Rising.{any}
 use Rattle.pair.specs.Tests.{firstOf}
 use Rattle.pair.proofs.Tests.{or-left, or-right}
 use Rattle.pair.proofs.Words.{words-nil, words-cons}
-use Rattle.card.specs.Layout.{live, formatNumber, formatted}
+use Rattle.card.specs.Layout.{widthOf, live, formatNumber, formatted}
 use Rattle.batch.specs.Batch.{updates, applied}
 use Rattle.history.specs.Claims.{Lends, Keeps, ran, finished, KeptBatch}
 use Rattle.history.specs.Cases.{three}
@@ -40,7 +40,7 @@ unfolding Keeps Lends formatNumber firstOf
 three-kept = ((refl, (refl, (refl, (refl, (refl, (refl, (tt, (tt, (tt, ((λ e. omega arith), tt)))))))))), computed .finishes)
 
 pub three-applied : live (ran card keepsThree) ≡ applied (updates three) (live card)
-unfolding KeptBatch wordsOf any firstOf formatNumber formatted
+unfolding KeptBatch wordsOf any firstOf widthOf formatNumber formatted
 three-applied =
     keptBatch card three keepsThree (listed card refl) (listed three refl) (given keepsThree (listed (wordsOf keepsThree) refl)) (computed .sound) refl
     (three-kept .0) (three-kept .1)
