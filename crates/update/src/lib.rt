@@ -271,10 +271,10 @@ pub struct WriteSpan {
 pub fn write_span(card: &[u32], write: u32) -> WriteSpan
     ensures { λ r. ⌜ r ≡ writeSpan (now (card .entry)) write ⌝ }
 {
-    let number = card::judge(card);
-    if number != 0 {
+    let judged = card::judge(card);
+    if judged != 0 {
         return WriteSpan {
-            number,
+            number: judged,
             start: 0,
             count: 0,
         };
@@ -283,27 +283,27 @@ pub fn write_span(card: &[u32], write: u32) -> WriteSpan
     let place = k.due_place();
     if write == 1 {
         return WriteSpan {
-            number,
+            number: 0,
             start: layout::place_start(card, place),
             count: k.size as usize,
         };
     }
     if write == 2 {
         return WriteSpan {
-            number,
+            number: 0,
             start: layout::entry_start(card, place),
             count: layout::width_of(k.format) as usize,
         };
     }
     if write == 3 {
         return WriteSpan {
-            number,
+            number: 0,
             start: 0,
             count: CONFIGURATION_WORDS,
         };
     }
     WriteSpan {
-        number,
+        number: 0,
         start: 0,
         count: 0,
     }

@@ -51,7 +51,7 @@ returns-2 : tie.Need-returns-2
 unfolding writeSpan
 returns-2 c = let t = c .before .before in
     let e = t .before .before .before in
-    rw (e .if1 .left, c .before .place-start .ensures, due-at (t .before), in-order (t .before .before) .ofSize, J e, t .if2 .taken)
+    rw (c .before .place-start .ensures, due-at (t .before), in-order (t .before .before) .ofSize, J e, t .if2 .taken)
 
 entry-start-requires : tie.Need-entry-start-requires
 entry-start-requires c κs = search needs
@@ -66,11 +66,11 @@ returns-3 : tie.Need-returns-3
 unfolding writeSpan
 returns-3 c = let p = c .before .before .before .before in
     let e = p .before .before in
-    rw (e .if1 .left, c .before .entry-start .ensures, c .width-of .ensures, due-at p, in-order (p .before) .ofFormat, J e, c .before .before .if3 .taken)
+    rw (c .before .entry-start .ensures, c .width-of .ensures, due-at p, in-order (p .before) .ofFormat, J e, c .before .before .if3 .taken)
 
 returns-4 : tie.Need-returns-4
 unfolding writeSpan
-returns-4 c = let e = c .before .before .before .before .before in rw (e .if1 .left, J e, c .if4 .taken)
+returns-4 c = let e = c .before .before .before .before .before in rw (J e, c .if4 .taken)
 
 returns-5 : tie.Need-returns-5
 unfolding writeSpan
@@ -78,7 +78,7 @@ returns-5 c = let t = c .before in
     let u = t .before in
     let e = u .before .before .before in
     let w = e .before .before .before .args .write in
-    rw (e .if1 .left, J e, ne-eqb w 1 (u .if2 .left), ne-eqb w 2 (t .if3 .left), ne-eqb w 3 (c .if4 .left))
+    rw (J e, ne-eqb w 1 (u .if2 .left), ne-eqb w 2 (t .if3 .left), ne-eqb w 3 (c .if4 .left))
 
 pub write-span-spec : {M : Type 1} → statement M
 write-span-spec =
