@@ -14,7 +14,7 @@ use Rattle.pair.proofs.Tests.{and-left, and-right, or-left, or-right, or-cases}
 use Rattle.pair.proofs.Order.{proper-rank}
 use Rattle.pair.proofs.FirstOf.{passed}
 use Rattle.batch.specs.Batch.{Update, updates, anyUpdate, adds, applied, illFormed, falls, batchNumber}
-use Rattle.batch.specs.code.Search.{OfWords}
+use Rattle.batch.specs.code.Search.{UpdateWords}
 use Rattle.batch.proofs.Meaning.{added, Each-applied, rising-applied}
 
 -- the facts behind the number 0
@@ -73,7 +73,7 @@ formed-facts u e = record { termLow = low (u .term) (search (or-left, or-right))
     low n f = let d : n ≢ 0 = eqb-false n 0 f in omega arith
 
 -- the updates of a batch of 32-bit words have such words
-pub words-updates : (b : List ℕ) → Words b → EachUpdate OfWords (updates b)
+pub words-updates : (b : List ℕ) → Words b → EachUpdate UpdateWords (updates b)
 unfolding updates Words
 words-updates [] w = tt
 words-updates (k ∷ []) w = tt
@@ -112,9 +112,9 @@ added-positive b e x h =
 pub added-proper : (b : List ℕ) → Words b → batchNumber b ≡ 0 → (x : ℕ) → added (updates b) x ≡ true → Proper x
 added-proper b w e x h =
     added-Each Proper (updates b) x
-    (EachUpdate-imply (λ u. Formed u × OfWords u) (λ u. u .kind ≡ 1 → Proper (rank (u .term) (u .from)))
+    (EachUpdate-imply (λ u. Formed u × UpdateWords u) (λ u. u .kind ≡ 1 → Proper (rank (u .term) (u .from)))
     (λ u f i. proper-rank (u .term) (u .from) (f .0 .termLow) (f .1 .termWord) (f .0 .fromLow) (f .1 .fromWord)) (updates b)
-    (EachUpdate-both Formed OfWords (updates b) (formed-updates b e) (words-updates b w))) h
+    (EachUpdate-both Formed UpdateWords (updates b) (formed-updates b e) (words-updates b w))) h
 
 -- applied to a set of pairs it gives a set of pairs
 pub rising-batch : (b s : List ℕ) → batchNumber b ≡ 0 → risingFrom 0 s ≡ true → risingFrom 0 (applied (updates b) s) ≡ true

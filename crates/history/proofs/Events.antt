@@ -14,7 +14,7 @@ use Rattle.pair.proofs.Words.{words-take, words-append, words-zeros, words-sets
 use Rattle.card.proofs.Facts.{Facts, facts}
 use Rattle.card.proofs.Formatted.{formatted-refused}
 use Rattle.update.specs.Step.{withWrite, remains, duePlace, dueBlock, dueEntry, nextWrite, theWrite, stepNumber, taken, refused, step}
-use Rattle.update.proofs.Grown.{Remaining, Ready}
+use Rattle.update.proofs.Grown.{Remaining, DueWritten}
 use Rattle.update.proofs.Next.{remaining}
 use Rattle.update.proofs.Steps.{Accepted, accepted, step-taken, step-refused}
 use Rattle.update.proofs.Writes.{written, length-due-block, length-due-entry, three, alike-duePlace, alike-dueEntry, written-first-alike, written-second-alike, written-first-words, written-second-words}
@@ -67,7 +67,7 @@ module _ (c b : List ℕ) (h : History) (k : Keeping c h) (wb : Words b) (z : st
       torn-words : List ℕ → List ℕ
       torn-words es = just (length es) ws
 
-      go : (t : Bool) → (0 < length r → Ready c r) → Keeping (cond t (written c r 3) c) (cond t (landed b h) h)
+      go : (t : Bool) → (0 < length r → DueWritten c r) → Keeping (cond t (written c r 3) c) (cond t (landed b h) h)
       go true ready = keeping-landed c b h k m ready (a .free)
       go false ready = k
 

@@ -16,7 +16,7 @@ use Rattle.card.proofs.Frame.{Alike, word-alike, live-alike, judged-alike}
 use Rattle.update.specs.Step.{remains, nextBoundary, crowded}
 use Rattle.update.proofs.Writes.{written}
 use Rattle.update.proofs.Configuration.{nextBoundary-on, nextBoundary-end, live-on, live-end}
-use Rattle.update.proofs.Grown.{Remaining, Ready}
+use Rattle.update.proofs.Grown.{Remaining, DueWritten}
 use Rattle.update.proofs.Settled.{configuration-sound, configuration-words, configuration-size, configuration-term, configuration-position}
 use Rattle.history.proofs.Landed.{landed-size}
 use Rattle.history.specs.History.{History, started, toWrite, next, landed}
@@ -83,7 +83,7 @@ keeping-formatted c b n e w hb hn =
 
 -- The configuration write of a step does to the card what a landed write does to the history.
 module _ (c b : List ℕ) (h : History) (k : Keeping c h) (m : Remaining c (remains c b))
-    (ready : 0 < length (remains c b) → Ready c (remains c b)) (free : crowded c (remains c b) ≡ false) where
+    (ready : 0 < length (remains c b) → DueWritten c (remains c b)) (free : crowded c (remains c b) ≡ false) where
   abbrev r : List ℕ
   r = remains c b
 

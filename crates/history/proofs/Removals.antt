@@ -18,7 +18,7 @@ use Rattle.card.proofs.Formatted.{formatted-refused}
 use Rattle.batch.specs.Batch.{batchNumber}
 use Rattle.update.specs.Step.{withWrite, remains, dueBlock, dueEntry, nextWrite, theWrite, stepNumber, taken, step}
 use Rattle.update.proofs.Crowded.{Removals}
-use Rattle.update.proofs.Roomy.{Roomy, roomy-alike, roomy-configuration, roomy-number, roomy-written}
+use Rattle.update.proofs.RoomKept.{RoomFor, room-for-alike, room-for-configuration, room-for-number, room-for-written}
 use Rattle.update.proofs.Steps.{step-taken}
 use Rattle.update.proofs.Writes.{written, length-due-block, length-due-entry, three, alike-duePlace, alike-dueEntry}
 use Rattle.history.specs.History.{History, Event, stepped, cut, looked, restarted, formats, just, tornWrite, torn, after, tells, told, AllOfWords}
@@ -26,50 +26,50 @@ use Rattle.history.specs.Claims.{Lends, Keeps, ran, freePlaces, Removals
 use Rattle.history.proofs.Keeping.{Keeping, itself, keeping-itself}
 use Rattle.history.proofs.Events.{length-just, keeping-after}
 
-module _ (c b : List ℕ) (f : Facts c) (j : judged c ≡ 0) (w : Words c) (n : batchNumber b ≡ 0) (o : Removals b) (h : Roomy b c) where
+module _ (c b : List ℕ) (f : Facts c) (j : judged c ≡ 0) (w : Words c) (n : batchNumber b ≡ 0) (o : Removals b) (h : RoomFor b c) where
   taking : step c b ≡ taken c (remains c b) (nextWrite c (remains c b))
-  taking = step-taken c b (roomy-number b c j w n o h)
+  taking = step-taken c b (room-for-number b c j w n o h)
 
   -- a step keeps the room
-  roomy-step : Roomy b (step c b .card)
+  room-for-step : RoomFor b (step c b .card)
   unfolding taken
-  roomy-step = rw taking (roomy-written b c f w o h)
+  room-for-step = rw taking (room-for-written b c f w o h)
 
   -- so does a cut step
-  roomy-torn : (ws : List ℕ) (l : Bool) → Roomy b (torn c b ws l)
+  room-for-torn : (ws : List ℕ) (l : Bool) → RoomFor b (torn c b ws l)
   unfolding torn taken theWrite tornWrite
-  roomy-torn ws l =
+  room-for-torn ws l =
       rw taking
       (three c r P
-      (λ some. roomy-alike b c _ (alike-duePlace c (just (length (dueBlock c r)) ws) f (omega (arith, length-due-block c r, length-just (length (dueBlock c r)) ws))) h)
-      (λ some placed. roomy-alike b c _ (alike-dueEntry c (just (length (dueEntry r)) ws) f (omega (arith, length-due-entry c r, length-just (length (dueEntry r)) ws))) h)
+      (λ some. room-for-alike b c _ (alike-duePlace c (just (length (dueBlock c r)) ws) f (omega (arith, length-due-block c r, length-just (length (dueBlock c r)) ws))) h)
+      (λ some placed. room-for-alike b c _ (alike-dueEntry c (just (length (dueEntry r)) ws) f (omega (arith, length-due-entry c r, length-just (length (dueEntry r)) ws))) h)
       (λ ready. lands l))
     where
       r : List ℕ
       r = remains c b
 
       P : ℕ → Type 0
-      P x = Roomy b (cond (eqb x 3) (cond l (written c r x) c) (withWrite c (tornWrite (theWrite c r x) ws)))
+      P x = RoomFor b (cond (eqb x 3) (cond l (written c r x) c) (withWrite c (tornWrite (theWrite c r x) ws)))
 
-      lands : (t : Bool) → Roomy b (cond t (written c r 3) c)
-      lands true = roomy-configuration b c f w o h
+      lands : (t : Bool) → RoomFor b (cond t (written c r 3) c)
+      lands true = room-for-configuration b c f w o h
       lands false = h
 
 -- every event that lends the batch keeps the room
-roomy-after : (c b : List ℕ) (e : Event) → judged c ≡ 0 → Words c → batchNumber b ≡ 0 → Removals b → Lends c b e → Roomy b c → Roomy b (after c e)
+room-for-after : (c b : List ℕ) (e : Event) → judged c ≡ 0 → Words c → batchNumber b ≡ 0 → Removals b → Lends c b e → RoomFor b c → RoomFor b (after c e)
 unfolding after Lends
-roomy-after c b (stepped x) j w n o l h = rw l (roomy-step c b (facts c j) j w n o h)
-roomy-after c b (cut x ws t) j w n o l h = rw l (roomy-torn c b (facts c j) j w n o h ws t)
-roomy-after c b (looked t a z answer) j w n o l h = h
-roomy-after c b restarted j w n o l h = h
-roomy-after c b (formats x m) j w n o l h = rw (formatted-refused c x m (ne-eqb (formatNumber c x m) 0 l)) h
+room-for-after c b (stepped x) j w n o l h = rw l (room-for-step c b (facts c j) j w n o h)
+room-for-after c b (cut x ws t) j w n o l h = rw l (room-for-torn c b (facts c j) j w n o h ws t)
+room-for-after c b (looked t a z answer) j w n o l h = h
+room-for-after c b restarted j w n o l h = h
+room-for-after c b (formats x m) j w n o l h = rw (formatted-refused c x m (ne-eqb (formatNumber c x m) 0 l)) h
 
-never : (c b : List ℕ) (k : History) (es : List Event) → Keeping c k → AllOfWords es → batchNumber b ≡ 0 → Removals b → Roomy b c → Keeps c b es →
+never : (c b : List ℕ) (k : History) (es : List Event) → Keeping c k → AllOfWords es → batchNumber b ≡ 0 → Removals b → RoomFor b c → Keeps c b es →
     stepNumber (ran c es) b ≡ 0
 unfolding ran AllOfWords Keeps
-never c b k [] s w n o h l = roomy-number b c (s .sound) (s .words) n o h
+never c b k [] s w n o h l = room-for-number b c (s .sound) (s .words) n o h
 never c b k (e ∷ es) s w n o h l =
-    never (after c e) b (told (tells c e) k) es (keeping-after c e k s (w .0)) (w .1) n o (roomy-after c b e (s .sound) (s .words) n o (l .0) h) (l .1)
+    never (after c e) b (told (tells c e) k) es (keeping-after c e k s (w .0)) (w .1) n o (room-for-after c b e (s .sound) (s .words) n o (l .0) h) (l .1)
 
 pub removalsNeverFull : RemovalsNeverFull
 unfolding RemovalsNeverFull freePlaces

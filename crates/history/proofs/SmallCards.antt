@@ -8,8 +8,8 @@ use Rattle.card.specs.Sound.{blocksSound, firstReaches, boundaryWords, segments
 use Rattle.batch.specs.Batch.{updates, anyUpdate, adds, removes, withdrawn, withAdded, applied, illFormed, falls, batchNumber}
 use Rattle.update.specs.Step.{remains, duePlace, spent, configured, nextBoundary, freed, grown, configuration, dueBlock, dueEntry, nextWrite, theWrite, crowded, stepNumber, taken, refused, step}
 use Rattle.lookup.specs.Found.{found, mappedTo, span, blocksRead, questionNumber, lookupNumber, lookup}
-use Rattle.history.specs.Cases.{after, makesAll, seen, allSeen, fresh, first, Cases}
+use Rattle.history.specs.Cases.{afterSteps, makesAll, seen, allSeen, fresh, first, Cases}
 
 pub cases : Cases
-unfolding keep above within risingFrom insert last any same firstOf zeros pairsFrom pairs formedFrom formed leading packedAfter blockOf fitting due goesOn widthOf firstPair place around pairsAt live formatNumber formatted blocksSound firstReaches boundaryWords segmentsSound judged updates anyUpdate adds removes withdrawn withAdded applied illFormed falls batchNumber remains duePlace spent configured nextBoundary freed grown configuration dueBlock dueEntry nextWrite theWrite crowded stepNumber taken refused step found mappedTo span blocksRead questionNumber lookupNumber lookup after makesAll seen allSeen fresh first Cases
+unfolding keep above within risingFrom insert last any same firstOf zeros pairsFrom pairs formedFrom formed leading packedAfter blockOf fitting due goesOn widthOf firstPair place around pairsAt live formatNumber formatted blocksSound firstReaches boundaryWords segmentsSound judged updates anyUpdate adds removes withdrawn withAdded applied illFormed falls batchNumber remains duePlace spent configured nextBoundary freed grown configuration dueBlock dueEntry nextWrite theWrite crowded stepNumber taken refused step found mappedTo span blocksRead questionNumber lookupNumber lookup afterSteps makesAll seen allSeen fresh first Cases
 cases = refl

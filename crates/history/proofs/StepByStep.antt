@@ -15,7 +15,7 @@ use Rattle.card.proofs.Facts.{facts}
 use Rattle.card.proofs.Live.{live-rising}
 use Rattle.batch.specs.Batch.{updates}
 use Rattle.update.specs.Step.{remains, nextWrite, theWrite, stepNumber, taken, refused, step}
-use Rattle.update.proofs.Grown.{Ready}
+use Rattle.update.proofs.Grown.{DueWritten}
 use Rattle.update.proofs.Next.{remains-next}
 use Rattle.update.proofs.Steps.{accepted, step-taken, step-refused}
 use Rattle.update.proofs.Writes.{three}
@@ -30,8 +30,8 @@ module _ (c b : List ℕ) (wc : Words c) (wb : Words b) (s : judged c ≡ 0) (w 
   start : Keeping c (itself c)
   start = keeping-itself c wc s
 
-  after : Keeping (step c b .card) (landed b (itself c))
-  after = rw w at (keeping-stepped c b (itself c) start wb)
+  kept : Keeping (step c b .card) (landed b (itself c))
+  kept = rw w at (keeping-stepped c b (itself c) start wb)
 
   on : step c b .finished ≡ false → goesOn (blockSize c) (toWrite b (itself c)) ≡ true
   on f = not-false _ (sym (step-finishes c b (itself c) start w) ∙ f)
@@ -41,19 +41,19 @@ module _ (c b : List ℕ) (wc : Words c) (wb : Words b) (s : judged c ≡ 0) (w 
 
   moved : step c b .finished ≡ false → Moved (updates b) (boundary c) (boundary (step c b .card)) (live c) (live (step c b .card))
   moved f =
-      rw (after .index, keeping-boundary (step c b .card) (landed b (itself c)) after)
+      rw (kept .index, keeping-boundary (step c b .card) (landed b (itself c)) kept)
       (landed-moves b (itself c) (omega (arith, facts c s)) (live-rising c (facts c s)) (on f))
 
   movedAll : step c b .finished ≡ true → MovedAll (updates b) (boundary c) (live c) (live (step c b .card))
-  movedAll f = rw (after .index) (landed-finishes b (itself c) (live-rising c (facts c s)) (off f))
+  movedAll f = rw (kept .index) (landed-finishes b (itself c) (live-rising c (facts c s)) (off f))
 
 pub movesPast : MovesPast
 unfolding MovesPast
 movesPast c b wc wb s w = (moved c b wc wb s w, movedAll c b wc wb s w)
 
 -- the third write is next only where the due block and its map entry are in place
-ready : (c r : List ℕ) → nextWrite c r ≡ 3 → 0 < length r → Ready c r
-ready c r = three c r (λ w. w ≡ 3 → 0 < length r → Ready c r) (λ h e. absurd (omega arith)) (λ h p e. absurd (omega arith)) (λ z e. z)
+ready : (c r : List ℕ) → nextWrite c r ≡ 3 → 0 < length r → DueWritten c r
+ready c r = three c r (λ w. w ≡ 3 → 0 < length r → DueWritten c r) (λ h e. absurd (omega arith)) (λ h p e. absurd (omega arith)) (λ z e. z)
 
 pub remainsNext : RemainsNext
 unfolding RemainsNext taken refused theWrite

@@ -31,9 +31,9 @@ pub data Sight : Type 0 where
   finds : ℕ → ℕ → ℕ → List ℕ → ℕ → Sight
 
 -- the card after n steps with one batch
-unfoldable pub after : ℕ → List ℕ → List ℕ → List ℕ
-after zero b c = c
-after (suc n) b c = after n b (step c b .card)
+unfoldable pub afterSteps : ℕ → List ℕ → List ℕ → List ℕ
+afterSteps zero b c = c
+afterSteps (suc n) b c = afterSteps n b (step c b .card)
 
 unfoldable pub makesAll : List ℕ → List ℕ → List Made → Bool
 makesAll c b [] = true
@@ -79,7 +79,7 @@ removeBoth = 2 ∷ 5 ∷ 1 ∷ 4294967295 ∷ 2 ∷ 7 ∷ 1 ∷ 4294967295 ∷ [
 
 -- P1's card with n places
 unfoldable pub first : ℕ → List ℕ
-first n = after 3 three (fresh n)
+first n = afterSteps 3 three (fresh n)
 
 abbrev pub firstBlock : List ℕ
 firstBlock = 5 ∷ 2 ∷ 2 ∷ 9 ∷ 7 ∷ 1 ∷ 4 ∷ 0 ∷ []
@@ -93,33 +93,33 @@ table =
     -- P1
     (fresh 4, configuration (1 ∷ 8 ∷ 4 ∷ 0 ∷ 0 ∷ 0 ∷ 0 ∷ 0 ∷ []))
     ∷ (fresh 4, makes three (threeWrites 0 1))
-    ∷ (after 2 three (fresh 4), configuration (1 ∷ 8 ∷ 4 ∷ 0 ∷ 0 ∷ 0 ∷ 0 ∷ 0 ∷ []))
+    ∷ (afterSteps 2 three (fresh 4), configuration (1 ∷ 8 ∷ 4 ∷ 0 ∷ 0 ∷ 0 ∷ 0 ∷ 0 ∷ []))
     ∷ (first 4, holds 0 firstBlock)
     ∷ (first 4, configuration (1 ∷ 8 ∷ 4 ∷ 0 ∷ 1 ∷ 0 ∷ 0 ∷ 0 ∷ []))
     ∷ (first 4, index (rank 5 2 ∷ rank 5 9 ∷ rank 7 4 ∷ []))
     -- P2
     ∷ (first 4, makes addSevenEleven (threeWrites 1 1))
-    ∷ (after 3 addSevenEleven (first 4), holds 1 (5 ∷ 2 ∷ 2 ∷ 9 ∷ 7 ∷ 2 ∷ 4 ∷ 11 ∷ []))
-    ∷ (after 3 addSevenEleven (first 4), configuration (1 ∷ 8 ∷ 4 ∷ 1 ∷ 1 ∷ 0 ∷ 0 ∷ 0 ∷ []))
+    ∷ (afterSteps 3 addSevenEleven (first 4), holds 1 (5 ∷ 2 ∷ 2 ∷ 9 ∷ 7 ∷ 2 ∷ 4 ∷ 11 ∷ []))
+    ∷ (afterSteps 3 addSevenEleven (first 4), configuration (1 ∷ 8 ∷ 4 ∷ 1 ∷ 1 ∷ 0 ∷ 0 ∷ 0 ∷ []))
     -- P3
     ∷ (first 4, makes addEightOne (threeWrites 1 0))
-    ∷ (after 3 addEightOne (first 4), holds 1 firstBlock)
-    ∷ (after 3 addEightOne (first 4), configuration (1 ∷ 8 ∷ 4 ∷ 1 ∷ 0 ∷ 1 ∷ 7 ∷ 4 ∷ []))
-    ∷ (after 3 addEightOne (first 4), makes addEightOne (threeWrites 0 1))
-    ∷ (after 6 addEightOne (first 4), holds 2 (8 ∷ 1 ∷ 1 ∷ 0 ∷ 0 ∷ 0 ∷ 0 ∷ 0 ∷ []))
-    ∷ (after 6 addEightOne (first 4), configuration (1 ∷ 8 ∷ 4 ∷ 1 ∷ 2 ∷ 0 ∷ 0 ∷ 0 ∷ []))
+    ∷ (afterSteps 3 addEightOne (first 4), holds 1 firstBlock)
+    ∷ (afterSteps 3 addEightOne (first 4), configuration (1 ∷ 8 ∷ 4 ∷ 1 ∷ 0 ∷ 1 ∷ 7 ∷ 4 ∷ []))
+    ∷ (afterSteps 3 addEightOne (first 4), makes addEightOne (threeWrites 0 1))
+    ∷ (afterSteps 6 addEightOne (first 4), holds 2 (8 ∷ 1 ∷ 1 ∷ 0 ∷ 0 ∷ 0 ∷ 0 ∷ 0 ∷ []))
+    ∷ (afterSteps 6 addEightOne (first 4), configuration (1 ∷ 8 ∷ 4 ∷ 1 ∷ 2 ∷ 0 ∷ 0 ∷ 0 ∷ []))
     -- P4
     ∷ (first 2, makes addEightOne (threeWrites 1 0))
-    ∷ (after 3 addEightOne (first 2), configuration (1 ∷ 8 ∷ 2 ∷ 1 ∷ 0 ∷ 1 ∷ 7 ∷ 4 ∷ []))
-    ∷ (after 3 addEightOne (first 2), refuses addEightOne 8)
-    ∷ (after 3 addEightOne (first 2), makes [] ((3, 0, 1) ∷ []))
-    ∷ (after 1 [] (after 3 addEightOne (first 2)), configuration (1 ∷ 8 ∷ 2 ∷ 1 ∷ 1 ∷ 0 ∷ 0 ∷ 0 ∷ []))
+    ∷ (afterSteps 3 addEightOne (first 2), configuration (1 ∷ 8 ∷ 2 ∷ 1 ∷ 0 ∷ 1 ∷ 7 ∷ 4 ∷ []))
+    ∷ (afterSteps 3 addEightOne (first 2), refuses addEightOne 8)
+    ∷ (afterSteps 3 addEightOne (first 2), makes [] ((3, 0, 1) ∷ []))
+    ∷ (afterSteps 1 [] (afterSteps 3 addEightOne (first 2)), configuration (1 ∷ 8 ∷ 2 ∷ 1 ∷ 1 ∷ 0 ∷ 0 ∷ 0 ∷ []))
     -- P5
     ∷ (first 4, makes removeAndAdd (threeWrites 1 1))
-    ∷ (after 3 removeAndAdd (first 4), index (rank 5 9 ∷ rank 7 4 ∷ []))
+    ∷ (afterSteps 3 removeAndAdd (first 4), index (rank 5 9 ∷ rank 7 4 ∷ []))
     -- P6
     ∷ (first 4, makes removeBoth ((3, 1, 1) ∷ []))
-    ∷ (after 1 removeBoth (first 4), configuration (1 ∷ 8 ∷ 4 ∷ 1 ∷ 0 ∷ 0 ∷ 0 ∷ 0 ∷ []))
+    ∷ (afterSteps 1 removeBoth (first 4), configuration (1 ∷ 8 ∷ 4 ∷ 1 ∷ 0 ∷ 0 ∷ 0 ∷ 0 ∷ []))
     -- P7
     ∷ (first 4, finds 5 1 9 (2 ∷ 9 ∷ []) 1)
     ∷ (first 4, finds 5 3 8 [] 1)

@@ -60,12 +60,12 @@ unfolding lookupNumber firstOf
 number-none c t a z ans e l = rw (eq-eqb (questionNumber c t a z) 0 e, le-ltb (length ans) (length (found c t a z)) l)
 
 -- the answer and the answer words at the end are those of the lookup
-abbrev Answered : List ℕ → ℕ → ℕ → ℕ → List ℕ → LookupAnswer → List ℕ → Type 0
-Answered c t a z before r after = (r ≡ answerOf (lookup c t a z before)) × (after ≡ lookup c t a z before .answer)
+abbrev AnsweredAs : List ℕ → ℕ → ℕ → ℕ → List ℕ → LookupAnswer → List ℕ → Type 0
+AnsweredAs c t a z before r after = (r ≡ answerOf (lookup c t a z before)) × (after ≡ lookup c t a z before .answer)
 
 module _ (c : List ℕ) (t a z : ℕ) (ans : List ℕ) where
   -- a lookup refused for its question
-  pub answered-refused : {n : ℕ} → n ≡ questionNumber c t a z → (n ≡ 0 → ⊥) → Answered c t a z ans (Refused n) ans
+  pub answered-refused : {n : ℕ} → n ≡ questionNumber c t a z → (n ≡ 0 → ⊥) → AnsweredAs c t a z ans (Refused n) ans
   answered-refused {n} e h =
       let k : lookupNumber c t a z ans ≡ n = number-question c t a z ans n e h in
       let l = lookup-refused c t a z ans (rw k (ne-eqb n 0 h)) in
@@ -74,7 +74,7 @@ module _ (c : List ℕ) (t a z : ℕ) (ans : List ℕ) where
   -- for its answer words
   pub answered-short :
       {n : ℕ} {w : Walk} → n ≡ questionNumber c t a z → n ≡ 0 → LookupWalk c t a z w → {m : ℕ} → m ≡ length (ahead c w) → length ans < m →
-      Answered c t a z ans (Refused 10) ans
+      AnsweredAs c t a z ans (Refused 10) ans
   answered-short {n} {w} e h o {m} f l =
       let short : length ans < length (found c t a z) = rw (← o .found) (omega arith) in
       let k : lookupNumber c t a z ans ≡ 10 = number-short c t a z ans (sym e ∙ h) short in
@@ -84,7 +84,7 @@ module _ (c : List ℕ) (t a z : ℕ) (ans : List ℕ) where
   -- and one that is not refused
   pub answered-found :
       {n : ℕ} {w : Walk} → n ≡ questionNumber c t a z → n ≡ 0 → LookupWalk c t a z w → {m : ℕ} → m ≡ length (ahead c w) → m ≤ length ans →
-      {after : List ℕ} → after ≡ sets ans 0 (ahead c w) → Answered c t a z ans (Found m (blocksOf w)) after
+      {after : List ℕ} → after ≡ sets ans 0 (ahead c w) → AnsweredAs c t a z ans (Found m (blocksOf w)) after
   answered-found {n} {w} e h o {m} f l {after} s =
       let room : length (found c t a z) ≤ length ans = rw (← o .found) (omega arith) in
       let k : lookupNumber c t a z ans ≡ 0 = number-none c t a z ans (sym e ∙ h) room in

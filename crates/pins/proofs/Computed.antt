@@ -17,7 +17,7 @@ use Rattle.lookup.specs.Found.{found, mappedTo, span, blocksRead, questionNumbe
 use Rattle.history.specs.History.{just, tornWrite, torn}
 use Rattle.history.specs.History as history
 use Rattle.history.specs.Claims.{ran, finishing, finished}
-use Rattle.history.specs.Cases.{after, three, fresh, first, addEightOne, table, allSeen, Cases}
+use Rattle.history.specs.Cases.{afterSteps, three, fresh, first, addEightOne, table, allSeen, Cases}
 use Rattle.history.proofs.SmallCards.{cases}
 use Rattle.pins.specs.Events.{blank, card, keepsThree, everyKind, met, meets}
 
@@ -36,14 +36,14 @@ pub record Computed : Type 0 where
   pub p1-ends : finishesWithin 3 (fresh 4) three ≡ true
   pub p1-no-sooner : finishesWithin 2 (fresh 4) three ≡ false
   -- P3, after the first block and after the second
-  pub p3-block : place (after 3 addEightOne (first 4)) 1 ≡ 5 ∷ 2 ∷ 2 ∷ 9 ∷ 7 ∷ 1 ∷ 4 ∷ 0 ∷ []
-  pub p3-boundary : take 8 (after 3 addEightOne (first 4)) ≡ 1 ∷ 8 ∷ 4 ∷ 1 ∷ 0 ∷ 1 ∷ 7 ∷ 4 ∷ []
-  pub p3-last-block : place (after 6 addEightOne (first 4)) 2 ≡ 8 ∷ 1 ∷ 1 ∷ 0 ∷ 0 ∷ 0 ∷ 0 ∷ 0 ∷ []
-  pub p3-finished : take 8 (after 6 addEightOne (first 4)) ≡ 1 ∷ 8 ∷ 4 ∷ 1 ∷ 2 ∷ 0 ∷ 0 ∷ 0 ∷ []
+  pub p3-block : place (afterSteps 3 addEightOne (first 4)) 1 ≡ 5 ∷ 2 ∷ 2 ∷ 9 ∷ 7 ∷ 1 ∷ 4 ∷ 0 ∷ []
+  pub p3-boundary : take 8 (afterSteps 3 addEightOne (first 4)) ≡ 1 ∷ 8 ∷ 4 ∷ 1 ∷ 0 ∷ 1 ∷ 7 ∷ 4 ∷ []
+  pub p3-last-block : place (afterSteps 6 addEightOne (first 4)) 2 ≡ 8 ∷ 1 ∷ 1 ∷ 0 ∷ 0 ∷ 0 ∷ 0 ∷ 0 ∷ []
+  pub p3-finished : take 8 (afterSteps 6 addEightOne (first 4)) ≡ 1 ∷ 8 ∷ 4 ∷ 1 ∷ 2 ∷ 0 ∷ 0 ∷ 0 ∷ []
   -- P4, where the pass stops and how an empty batch ends it
-  pub p4-boundary : take 8 (after 3 addEightOne (first 2)) ≡ 1 ∷ 8 ∷ 2 ∷ 1 ∷ 0 ∷ 1 ∷ 7 ∷ 4 ∷ []
-  pub p4-full : step (after 3 addEightOne (first 2)) addEightOne .number ≡ 8
-  pub p4-finished : take 8 (step (after 3 addEightOne (first 2)) [] .card) ≡ 1 ∷ 8 ∷ 2 ∷ 1 ∷ 1 ∷ 0 ∷ 0 ∷ 0 ∷ []
+  pub p4-boundary : take 8 (afterSteps 3 addEightOne (first 2)) ≡ 1 ∷ 8 ∷ 2 ∷ 1 ∷ 0 ∷ 1 ∷ 7 ∷ 4 ∷ []
+  pub p4-full : step (afterSteps 3 addEightOne (first 2)) addEightOne .number ≡ 8
+  pub p4-finished : take 8 (step (afterSteps 3 addEightOne (first 2)) [] .card) ≡ 1 ∷ 8 ∷ 2 ∷ 1 ∷ 1 ∷ 0 ∷ 0 ∷ 0 ∷ []
   -- the card of the lists of events, and what they meet and leave
   pub accepted : formatNumber blank 8 2 ≡ 0
   pub sound : judged card ≡ 0
@@ -53,7 +53,7 @@ pub record Computed : Type 0 where
   pub index : live (ran card keepsThree) ≡ rank 5 2 ∷ rank 5 9 ∷ rank 7 4 ∷ []
 
 pub computed : Computed
-unfolding keep above within risingFrom insert last any same firstOf zeros pairsFrom pairs formedFrom formed leading packedAfter blockOf fitting due goesOn widthOf firstPair place around pairsAt live formatNumber formatted blocksSound firstReaches boundaryWords segmentsSound judged updates anyUpdate adds removes withdrawn withAdded applied illFormed falls batchNumber remains duePlace spent configured nextBoundary freed grown configuration dueBlock dueEntry nextWrite theWrite crowded stepNumber taken refused step found mappedTo span blocksRead questionNumber lookupNumber lookup just tornWrite torn history.after ran finishing finished after fresh first met meets blocksFrom blocks finishesWithin refusedWithin
+unfolding keep above within risingFrom insert last any same firstOf zeros pairsFrom pairs formedFrom formed leading packedAfter blockOf fitting due goesOn widthOf firstPair place around pairsAt live formatNumber formatted blocksSound firstReaches boundaryWords segmentsSound judged updates anyUpdate adds removes withdrawn withAdded applied illFormed falls batchNumber remains duePlace spent configured nextBoundary freed grown configuration dueBlock dueEntry nextWrite theWrite crowded stepNumber taken refused step found mappedTo span blocksRead questionNumber lookupNumber lookup just tornWrite torn history.after ran finishing finished afterSteps fresh first met meets blocksFrom blocks finishesWithin refusedWithin
 computed =
     record {
       p1-blocks = refl;

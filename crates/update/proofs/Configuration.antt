@@ -22,8 +22,8 @@ use Rattle.card.proofs.Facts.{Facts}
 use Rattle.card.proofs.Live.{reaches-zero, pairsAt-append, blocksSound-append, live-atMost, live-above}
 use Rattle.update.specs.Step.{spent, nextBoundary, freed, grown, configuration, theWrite, crowded}
 use Rattle.update.proofs.Writes.{written}
-use Rattle.update.proofs.Configured.{withSegments, Fit, configured-live}
-use Rattle.update.proofs.Grown.{Remaining, Ready, Grown, growing}
+use Rattle.update.proofs.Segments.{withSegments, Fit, segments-live}
+use Rattle.update.proofs.Grown.{Remaining, DueWritten, Grown, growing}
 use Rattle.update.proofs.Spent.{spent-length, spent-reaches, above-spent}
 
 proper-last : (xs : List ℕ) (d : ℕ) → 0 < length xs → Each Proper xs → Proper (last d xs)
@@ -39,7 +39,7 @@ uncrowded c r h e =
     let e′ : (not (eqb (length r) 0) && leb (placeCount c) (cond (goesOn (blockSize c) r) (oldLength c - freed c r) 0 + grown c r)) ≡ false = e in
     leb-false (placeCount c) (cond (goesOn (blockSize c) r) (oldLength c - freed c r) 0 + grown c r) (rw (ne-eqb (length r) 0 (λ q. omega arith)) at e′)
 
-module _ (c r : List ℕ) (f : Facts c) (m : Remaining c r) (ready : 0 < length r → Ready c r) where
+module _ (c r : List ℕ) (f : Facts c) (m : Remaining c r) (ready : 0 < length r → DueWritten c r) where
   grows : Grown c r
   grows = growing c r f m ready
 
@@ -106,7 +106,7 @@ module _ (c r : List ℕ) (f : Facts c) (m : Remaining c r) (ready : 0 < length 
     live-on =
         rw (
           configuration-on,
-          configured-live c (oldStart c + gone) (oldLength c - gone) (grown c r) mark f,
+          segments-live c (oldStart c + gone) (oldLength c - gone) (grown c r) mark f,
           new,
           left,
           grows .pairs,
@@ -160,7 +160,7 @@ module _ (c r : List ℕ) (f : Facts c) (m : Remaining c r) (ready : 0 < length 
     live-end =
         rw (
           configuration-end,
-          configured-live c (oldStart c + oldLength c) (grown c r) 0 0 f,
+          segments-live c (oldStart c + oldLength c) (grown c r) 0 0 f,
           grows .pairs,
           above-all (pairsAt c (newPlaces c) ++ due (blockSize c) r) 0 0 (omega arith) (grows .rising),
           live-atMost c f,

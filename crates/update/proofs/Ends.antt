@@ -19,7 +19,7 @@ use Rattle.update.specs.Step.{remains, duePlace, dueBlock, nextWrite, th
 use Rattle.update.specs.Pass.{blocks, stepLimit, finishesWithin, refusedWithin}
 use Rattle.update.proofs.Blocks.{blocks-next, blocks-none, blocks-some, blocks-goesOn}
 use Rattle.update.proofs.Frame.{size-alike, remains-alike}
-use Rattle.update.proofs.Grown.{Remaining, Ready}
+use Rattle.update.proofs.Grown.{Remaining, DueWritten}
 use Rattle.update.proofs.Next.{remaining, next-first, next-second, remains-next}
 use Rattle.update.proofs.Settled.{configuration-sound, configuration-words, configuration-size}
 use Rattle.update.proofs.Steps.{Accepted, accepted, step-taken, step-number}
@@ -57,7 +57,7 @@ work-alike c d b a h =
     (omega (arith, next-range c (remains c b), next-range d (remains c b)))
 
 -- so does a configuration write that goes on
-work-next : (c b : List ℕ) → Facts c → Words c → Words b → Accepted c b → (0 < length (remains c b) → Ready c (remains c b)) →
+work-next : (c b : List ℕ) → Facts c → Words c → Words b → Accepted c b → (0 < length (remains c b) → DueWritten c (remains c b)) →
     goesOn (blockSize c) (remains c b) ≡ true → work (written c (remains c b) 3) b < work c b
 unfolding work
 work-next c b f wc wb a ready on =
@@ -108,7 +108,7 @@ turn c b n f wc wb a ih l = three c r P first second third refl
         ih (written c r 2) (written-second-words c r f wc (m .proper) h) (judged-alike c (written c r 2) d ∙ a .sound)
         (omega (arith, work-alike c (written c r 2) b d (rw (e, next-second c r f p) (omega arith)))) q
 
-    third : (0 < length r → Ready c r) → P 3
+    third : (0 < length r → DueWritten c r) → P 3
     third ready e = go (goesOn (blockSize c) r) refl
       where
         go : (t : Bool) → goesOn (blockSize c) r ≡ t → (not (not t) && refusedWithin n (written c r 3) b) ≡ false →

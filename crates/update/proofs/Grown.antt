@@ -28,7 +28,7 @@ pub record Remaining (c r : List ℕ) : Type 0 where
   pub proper : Each Proper r
 
 -- the due place and its map entry hold the due block
-pub record Ready (c r : List ℕ) : Type 0 where
+pub record DueWritten (c r : List ℕ) : Type 0 where
   pub block : place c (duePlace c) ≡ dueBlock c r
   pub mapped : entry c (duePlace c) ≡ dueEntry r
 
@@ -52,11 +52,11 @@ unfolding due fitting
 due-none b = refl
 
 -- the block at the due place
-due-pairs : (c r : List ℕ) → Remaining c r → Ready c r → pairsAt c (duePlace c ∷ []) ≡ due (blockSize c) r
+due-pairs : (c r : List ℕ) → Remaining c r → DueWritten c r → pairsAt c (duePlace c ∷ []) ≡ due (blockSize c) r
 unfolding pairsAt dueBlock
 due-pairs c r m e = rw (e .block, append-nil) (pairs-dueBlock (blockSize c) r (m .proper))
 
-due-sound : (c r : List ℕ) → Facts c → Remaining c r → Ready c r → 0 < length r → blocksSound c (duePlace c ∷ []) ≡ true
+due-sound : (c r : List ℕ) → Facts c → Remaining c r → DueWritten c r → 0 < length r → blocksSound c (duePlace c ∷ []) ≡ true
 unfolding blocksSound dueBlock dueEntry
 due-sound c r f m e h =
     let three : 3 ≤ blockSize c = omega (arith, f .sizeLow) in
@@ -66,7 +66,7 @@ due-sound c r f m e h =
     (rw (eq-eqb (getD r 0 0) (getD r 0 0) refl))
 
 -- With the third write due, the new places with the due place read as the new pairs and the due pairs, sound and rising.
-pub growing : (c r : List ℕ) → Facts c → Remaining c r → (0 < length r → Ready c r) → Grown c r
+pub growing : (c r : List ℕ) → Facts c → Remaining c r → (0 < length r → DueWritten c r) → Grown c r
 unfolding grown duePlace
 growing c [] f m e =
     let z : newLength c + 0 ≡ newLength c = omega arith in

@@ -1,6 +1,6 @@
 pub mod Blocks
 pub mod Configuration
-pub mod Configured
+pub mod Segments
 pub mod Crowded
 pub mod Cursor
 pub mod Ends
@@ -11,11 +11,11 @@ pub mod Merging
 pub mod Next
 pub mod Room
 pub mod Plans
-pub mod Roomy
+pub mod RoomKept
 pub mod Settled
 pub mod Skipping
 pub mod Spent
 pub mod Steps
 pub mod Values
 pub mod Writes
-pub mod Writing
+pub mod Copying

@@ -27,13 +27,13 @@ use Rattle.update.specs.declared.merge.Merge.{Merge}
 use Rattle.update.specs.declared.old.OldCursor.{OldCursor}
 use Rattle.update.specs.code.Merge.{Merges, Begun, left, Merged}
 use Rattle.update.specs.code.Old.{coming, pending, Skipped}
-use Rattle.update.proofs.Skipping.{started-coming}
+use Rattle.update.proofs.Skipping.{beforeFirst-coming}
 
 pub merges-begun : {c b : List ℕ} {m : Merge} → Facts c → Begun c m → Merges c b m
 merges-begun {c} {b} {m} f e =
     record {
       stands = e .old .stands;
-      olds = rw (e .bound) (live-above c f ∙ sym (ap (above (boundary c)) (e .old .next ∙ started-coming c)));
+      olds = rw (e .bound) (live-above c f ∙ sym (ap (above (boundary c)) (e .old .next ∙ beforeFirst-coming c)));
       adds = λ j h. ap (λ (n : ℕ). leastAdded j (drop n (updates b))) (sym (e .addition));
       decides = rw (e .decisions) (follows-start b (m .rank));
     }

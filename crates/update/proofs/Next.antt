@@ -23,7 +23,7 @@ use Rattle.card.proofs.Live.{live-rising, live-proper}
 use Rattle.update.specs.Step.{remains, duePlace, dueBlock, dueEntry, nextWrite, crowded}
 use Rattle.update.proofs.Configuration.{live-on, nextBoundary-on, mark-above, some}
 use Rattle.update.proofs.Frame.{duePlace-alike, dueBlock-alike}
-use Rattle.update.proofs.Grown.{Remaining, Ready}
+use Rattle.update.proofs.Grown.{Remaining, DueWritten}
 use Rattle.update.proofs.Settled.{configuration-sound, configuration-boundary}
 use Rattle.update.proofs.Writes.{written, next-write, same-refl, written-first-alike, written-first-place, written-second-alike, written-second-entry, written-second-place}
 
@@ -37,7 +37,7 @@ remaining c b f wc wb e =
     }
 
 -- With the due block and its map entry in place the third write is next.
-pub next-ready : (c r : List ℕ) → (0 < length r → Ready c r) → nextWrite c r ≡ 3
+pub next-ready : (c r : List ℕ) → (0 < length r → DueWritten c r) → nextWrite c r ≡ 3
 next-ready c [] e = next-write c []
 next-ready c (x ∷ xs) e =
     let z = e (omega arith) in
@@ -80,7 +80,7 @@ above-due b k r h = above-take (fitting b 0 r) r k h
 
 -- After a configuration write that goes on, what remained beyond the due block remains.
 pub remains-next :
-    (c b : List ℕ) → Facts c → Words c → Words b → batchNumber b ≡ 0 → (0 < length (remains c b) → Ready c (remains c b)) →
+    (c b : List ℕ) → Facts c → Words c → Words b → batchNumber b ≡ 0 → (0 < length (remains c b) → DueWritten c (remains c b)) →
     crowded c (remains c b) ≡ false → goesOn (blockSize c) (remains c b) ≡ true →
     remains (written c (remains c b) 3) b ≡ drop (fitting (blockSize c) 0 (remains c b)) (remains c b)
 remains-next c b f wc wb e ready free on = opened ∙ local ∙ beyond

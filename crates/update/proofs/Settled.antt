@@ -14,8 +14,8 @@ use Rattle.card.proofs.Facts.{Facts}
 use Rattle.update.specs.Step.{spent, nextBoundary, grown, crowded}
 use Rattle.update.proofs.Writes.{written}
 use Rattle.update.proofs.Configuration.{nextBoundary-on, mark-proper, fit-on, configuration-on, nextBoundary-end, fit-end, configuration-end}
-use Rattle.update.proofs.Configured.{withSegments, Fit, configured-sound, configured-words, configured-size, configured-term, configured-position, configured-boundary}
-use Rattle.update.proofs.Grown.{Remaining, Ready}
+use Rattle.update.proofs.Segments.{withSegments, Fit, segments-sound, segments-words, segments-size, segments-term, segments-position, segments-boundary}
+use Rattle.update.proofs.Grown.{Remaining, DueWritten}
 
 -- what the configuration write sets
 pub record Settled (c r : List ℕ) : Type 0 where
@@ -26,7 +26,7 @@ pub record Settled (c r : List ℕ) : Type 0 where
   pub fit : Fit c start old new (nextBoundary c r)
   pub small : term (nextBoundary c r) < 4294967296
 
-module _ (c r : List ℕ) (f : Facts c) (m : Remaining c r) (ready : 0 < length r → Ready c r) (free : crowded c r ≡ false) where
+module _ (c r : List ℕ) (f : Facts c) (m : Remaining c r) (ready : 0 < length r → DueWritten c r) (free : crowded c r ≡ false) where
   pub settled : Settled c r
   settled = go (goesOn (blockSize c) r) refl
     where
@@ -52,22 +52,22 @@ module _ (c r : List ℕ) (f : Facts c) (m : Remaining c r) (ready : 0 < length 
 
   -- The configuration write leaves a sound card,
   pub configuration-sound : judged (written c r 3) ≡ 0
-  configuration-sound = let s = settled in rw (s .is) (configured-sound c (s .start) (s .old) (s .new) (nextBoundary c r) f (s .fit))
+  configuration-sound = let s = settled in rw (s .is) (segments-sound c (s .start) (s .old) (s .new) (nextBoundary c r) f (s .fit))
 
   -- of 32-bit words,
   pub configuration-words : Words c → Words (written c r 3)
-  configuration-words w = let s = settled in rw (s .is) (configured-words c (s .start) (s .old) (s .new) (nextBoundary c r) f w (s .fit) (s .small))
+  configuration-words w = let s = settled in rw (s .is) (segments-words c (s .start) (s .old) (s .new) (nextBoundary c r) f w (s .fit) (s .small))
 
   -- with the same blocks and places,
   pub configuration-size : blockSize (written c r 3) ≡ blockSize c
-  configuration-size = let s = settled in rw (s .is) (configured-size c (s .start) (s .old) (s .new) (nextBoundary c r) f)
+  configuration-size = let s = settled in rw (s .is) (segments-size c (s .start) (s .old) (s .new) (nextBoundary c r) f)
 
   -- and the boundary set.
   pub configuration-term : boundaryTerm (written c r 3) ≡ term (nextBoundary c r)
-  configuration-term = let s = settled in rw (s .is) (configured-term c (s .start) (s .old) (s .new) (nextBoundary c r) f)
+  configuration-term = let s = settled in rw (s .is) (segments-term c (s .start) (s .old) (s .new) (nextBoundary c r) f)
 
   pub configuration-position : boundaryPosition (written c r 3) ≡ position (nextBoundary c r)
-  configuration-position = let s = settled in rw (s .is) (configured-position c (s .start) (s .old) (s .new) (nextBoundary c r) f)
+  configuration-position = let s = settled in rw (s .is) (segments-position c (s .start) (s .old) (s .new) (nextBoundary c r) f)
 
   pub configuration-boundary : boundary (written c r 3) ≡ nextBoundary c r
-  configuration-boundary = let s = settled in rw (s .is) (configured-boundary c (s .start) (s .old) (s .new) (nextBoundary c r) f)
+  configuration-boundary = let s = settled in rw (s .is) (segments-boundary c (s .start) (s .old) (s .new) (nextBoundary c r) f)

@@ -23,17 +23,17 @@ use Rattle.card.proofs.Facts.{Facts}
 use Rattle.card.proofs.Live.{place-words}
 use Rattle.card.proofs.Ordered.{shaped}
 use Rattle.update.specs.declared.old.OldCursor.{OldCursor}
-use Rattle.update.specs.code.Old.{coming, pending, Stands, Advanced, Skipped, started}
+use Rattle.update.specs.code.Old.{coming, pending, Stands, Advanced, Skipped, beforeFirst}
 use Rattle.update.specs.Step.{spent}
 use Rattle.update.proofs.Cursor.{place-block}
 
 -- the cursor before the first pair: all old pairs are to come
-pub started-coming : (c : List ℕ) → coming c (started c) ≡ pairsAt c (oldPlaces c)
+pub beforeFirst-coming : (c : List ℕ) → coming c (beforeFirst c) ≡ pairsAt c (oldPlaces c)
 unfolding coming
-started-coming c = unfold Rattle.block.specs.Block.pairsFrom in refl
+beforeFirst-coming c = unfold Rattle.block.specs.Block.pairsFrom in refl
 
-pub started-stands : (c : List ℕ) → Facts c → Stands c (started c)
-started-stands c f =
+pub beforeFirst-stands : (c : List ℕ) → Facts c → Stands c (beforeFirst c)
+beforeFirst-stands c f =
     record {
       shaped = shaped f;
       inside = omega arith;
@@ -41,7 +41,7 @@ started-stands c f =
       within = f .start;
       reading = record { position = 0; formed = unfold Rattle.block.specs.Block.formedFrom in refl };
       sound = f .oldSound;
-      rising = rw (started-coming c) (f .oldRising);
+      rising = rw (beforeFirst-coming c) (f .oldRising);
     }
 
 -- the test of the loop that goes on to the first pair above k

@@ -24,7 +24,7 @@ use Rattle.card.proofs.Free.{due-free, alike-place, alike-entry}
 use Rattle.card.proofs.Ordered.{shaped}
 use Rattle.card.proofs.Parts.{place-inside, entry-inside, part-sets-after, part-sets-same, word-sets-before}
 use Rattle.update.specs.Step.{duePlace, withWrite, dueBlock, dueEntry, nextWrite, theWrite}
-use Rattle.update.proofs.Grown.{Ready}
+use Rattle.update.proofs.Grown.{DueWritten}
 
 pub same-true : (xs ys : List ℕ) → same xs ys ≡ true → xs ≡ ys
 unfolding same
@@ -64,7 +64,7 @@ pub three :
     (c r : List ℕ) (P : ℕ → Type 0) →
     (0 < length r → P 1) →
     (0 < length r → place c (duePlace c) ≡ dueBlock c r → P 2) →
-    ((0 < length r → Ready c r) → P 3) →
+    ((0 < length r → DueWritten c r) → P 3) →
     P (nextWrite c r)
 three c [] P first second third = rw (next-write c []) (third (λ h. absurd (omega arith)))
 three c (x ∷ xs) P first second third =

@@ -2,7 +2,7 @@
 ghost use mathlib.Core.Path.{_≡_};
 ghost use Rattle.card.specs.Layout.{oldPlaces};
 ghost use Rattle.card.specs.Sound.{judged};
-ghost use Rattle.update.specs.code.Old.{EntryAt, entryAtWords, Stands, Advanced, Skipped, started};
+ghost use Rattle.update.specs.code.Old.{EntryAt, entryAtWords, Stands, Advanced, Skipped, beforeFirst};
 ghost use Rattle.update.specs.Step.{spent};
 use block::wanted::reads_on;
 use card::layout;
@@ -92,7 +92,7 @@ fn next(card: &[u32], old: OldCursor) -> OldCursor
 // The first old pair.
 pub(crate) fn first(card: &[u32]) -> OldCursor
     requires { ⌜ judged (now card) ≡ 0 ⌝ }
-    ensures { λ r. ⌜ Advanced (now (card .entry)) (started (now (card .entry))) r ⌝ }
+    ensures { λ r. ⌜ Advanced (now (card .entry)) (beforeFirst (now (card .entry))) r ⌝ }
 {
     let k = Configuration::of(card);
     let old = OldCursor {

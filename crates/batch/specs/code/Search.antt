@@ -5,7 +5,7 @@ use mathlib.Core.Bool.{Bool, cond, _&&_, not}
 use mathlib.Core.List.{List, [], _∷_}
 use lib.ListN.{length, drop, getD}
 use lib.Dec.{ltb, leb, eqb}
-use Rattle.pair.specs.Rank.{rank}
+use Rattle.pair.specs.Rank.{wordLimit, rank}
 use Rattle.batch.specs.declared.Addition.{Addition}
 use Rattle.batch.specs.declared.Cursor.{Cursor}
 use Rattle.batch.specs.declared.Decision.{Decision}
@@ -21,11 +21,11 @@ abbrev pub updateOf : Record → Update
 updateOf u = record { kind = u .kind; term = u .term; from = u .from; to = u .to }
 
 -- its words are 32-bit words
-pub record OfWords (u : Update) : Type 0 where
-  pub kindWord : u .kind < 4294967296
-  pub termWord : u .term < 4294967296
-  pub fromWord : u .from < 4294967296
-  pub toWord : u .to < 4294967296
+pub record UpdateWords (u : Update) : Type 0 where
+  pub kindWord : u .kind < wordLimit
+  pub termWord : u .term < wordLimit
+  pub fromWord : u .from < wordLimit
+  pub toWord : u .to < wordLimit
 
 -- the update adds a pair above k
 unfoldable pub addsAbove : ℕ → Update → Bool

@@ -5,14 +5,14 @@ use mathlib.Core.List.{List}
 use lib.ListN.{length, set}
 use lib.Dec.{ltb, leb, eqb}
 use Rattle.pair.specs.Rank.{term, position}
-use Rattle.block.specs.Block.{cost}
+use Rattle.block.specs.Block.{blockSizeMost, cost}
 use Rattle.block.specs.declared.pack.Packing.{Packing}
 use Rattle.block.specs.declared.pack.PutAnswer.{PutAnswer}
 
 -- the pair has room in n words, no more than a block has, and the count of its entry stands before the words to be used
 unfoldable pub hasRoom : ℕ → Packing → ℕ → Bool
 hasRoom n p x =
-    leb n 1024 && leb (p .used + cost (term (p .last)) x) n && (eqb (cost (term (p .last)) x) 3 || ltb (p .count) (p .used))
+    leb n blockSizeMost && leb (p .used + cost (term (p .last)) x) n && (eqb (cost (term (p .last)) x) 3 || ltb (p .count) (p .used))
 
 -- the words with the pair
 unfoldable pub putWords : List ℕ → Packing → ℕ → List ℕ

@@ -5,18 +5,18 @@ use mathlib.Core.Bool.{Bool, cond, _&&_}
 use mathlib.Core.List.{List}
 use lib.ListN.{length, getD}
 use Rattle.pair.specs.Rising.{risingFrom, last}
-use Rattle.block.specs.Block.{pairs, formed}
+use Rattle.block.specs.Block.{blockSizeMost, pairs, formed}
 use Rattle.block.specs.declared.BlockScan.{BlockScan}
 use Rattle.card.specs.declared.SegmentScan.{SegmentScan}
 use Rattle.card.specs.declared.layout.Configuration.{Configuration}
-use Rattle.card.specs.Layout.{format, blockSize, placeCount, oldStart, oldLength, newLength, boundary, entryWidth, cardLength, place, pairsAt}
+use Rattle.card.specs.Layout.{placeCountMost, format, blockSize, placeCount, oldStart, oldLength, newLength, boundary, entryWidth, cardLength, place, pairsAt}
 use Rattle.card.specs.Sound.{liveBlock, blocksSound}
 
 -- the block size and the count of places are within their limits, and the card has the length that they give
 pub record Shaped (c : List ℕ) : Type 0 where
-  pub sizeHigh : blockSize c ≤ 1024
+  pub sizeHigh : blockSize c ≤ blockSizeMost
   pub countLow : 2 ≤ placeCount c
-  pub countHigh : placeCount c ≤ 1024
+  pub countHigh : placeCount c ≤ placeCountMost
   pub long : length c ≡ cardLength (entryWidth c) (blockSize c) (placeCount c)
 
 -- the configuration words are in order, and the configuration by value says what they say

@@ -2,7 +2,7 @@ use native.Mathlib.Omega.{arith}
 -- `update::same` meets its contract. The invariant of its loop, Compared: what ok says of the words compared, with the rest, is so of all.
 use Prim.Native.Nat.{_-_}
 use lib.ListN.{length}
-use Rattle.update.proofs.Writing.{Compared, compared-start, compared-turn, compared-end, same-lengths}
+use Rattle.update.proofs.Copying.{Compared, compared-start, compared-turn, compared-end, same-lengths}
 use borrow.Author.Needs.{needs}
 use Rattle.update.proofs.same.Statement.{statement}
 use Rattle.update.proofs.same.Tie as tie

@@ -2,7 +2,7 @@
 use Prim.Native.Nat.{_-_}
 use native.Mathlib.Omega.{arith}
 use lib.ListN.{length}
-use Rattle.update.proofs.Writing.{Copied, copied-start, copied-length, copied-turn, copied-end}
+use Rattle.update.proofs.Copying.{Copied, copied-start, copied-length, copied-turn, copied-end}
 use borrow.Author.Needs.{needs}
 use Rattle.update.proofs.write.Statement.{statement}
 use Rattle.update.proofs.write.Tie as tie

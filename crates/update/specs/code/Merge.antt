@@ -10,7 +10,7 @@ use Rattle.card.specs.Layout.{boundary, live}
 use Rattle.batch.specs.Batch.{updates, applied}
 use Rattle.batch.specs.code.Search.{leastAdded, start, Follows}
 use Rattle.update.specs.declared.merge.Merge.{Merge}
-use Rattle.update.specs.code.Old.{pending, Stands, Advanced, started}
+use Rattle.update.specs.code.Old.{pending, Stands, Advanced, beforeFirst}
 
 -- a place in the merge, with the pairs up to the one in hand passed: the live pairs above it are those of the old cursor, no record before
 -- the one that additions are sought from adds a pair above it, and the cursor of decisions follows it
@@ -23,7 +23,7 @@ pub record Merges (c b : List ℕ) (m : Merge) : Type 0 where
 -- the place before the first pair
 pub record Begun (c : List ℕ) (m : Merge) : Type 0 where
   pub bound : m .rank ≡ boundary c
-  pub old : Advanced c (started c) (m .old)
+  pub old : Advanced c (beforeFirst c) (m .old)
   pub addition : m .addition ≡ 0
   pub decisions : m .decisions ≡ start
 

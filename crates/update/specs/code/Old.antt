@@ -26,8 +26,8 @@ unfoldable pub pending : List ℕ → OldCursor → List ℕ
 pending c o = cond (eqb (o .rank) 0) [] (o .rank ∷ coming c o)
 
 -- before the first pair
-abbrev pub started : List ℕ → OldCursor
-started c = record { place = oldStart c; places = oldLength c; at = 0; end = 0; term = 0; count = 0; rank = 0 }
+abbrev pub beforeFirst : List ℕ → OldCursor
+beforeFirst c = record { place = oldStart c; places = oldLength c; at = 0; end = 0; term = 0; count = 0; rank = 0 }
 
 -- an entry stands at the word at of a block that ends at end
 pub record EntryAt (c : List ℕ) (at end : ℕ) : Type 0 where

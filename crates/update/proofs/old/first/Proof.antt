@@ -3,7 +3,7 @@ use mathlib.Core.Path.{_≡_}
 use Rattle.card.specs.code.Scan.{Ordered}
 use Rattle.card.proofs.Facts.{facts}
 use Rattle.card.proofs.Ordered.{ordered-sound}
-use Rattle.update.proofs.Skipping.{started-stands}
+use Rattle.update.proofs.Skipping.{beforeFirst-stands}
 use borrow.Author.Needs.{needs}
 use Rattle.update.proofs.old.first.Statement.{statement}
 use Rattle.update.proofs.old.first.Tie as tie
@@ -15,7 +15,7 @@ of-requires : tie.Need-of-requires
 of-requires c κs = search needs
 
 next-requires : tie.Need-next-requires
-next-requires c κs = let o = in-order c in rw (o .ofStart, o .ofOld) (started-stands _ (facts _ (c .before .before .pre)))
+next-requires c κs = let o = in-order c in rw (o .ofStart, o .ofOld) (beforeFirst-stands _ (facts _ (c .before .before .pre)))
 
 returns : tie.Need-returns
 returns c = let o = in-order (c .before) in rw (o .ofStart, o .ofOld) at (c .next .ensures)

@@ -19,7 +19,7 @@ use Rattle.card.proofs.Facts.{Facts, facts}
 use Rattle.card.proofs.Frame.{SameAt, Alike, boundary-alike, oldPlaces-alike, word-alike}
 use Rattle.batch.specs.Batch.{batchNumber}
 use Rattle.update.specs.Step.{remains, spent, grown, freed, nextBoundary, configuration, nextWrite, theWrite, stepNumber}
-use Rattle.update.proofs.Configured.{withSegments, configured-boundary, configured-oldPlaces, configured-new, configured-count, configured-same}
+use Rattle.update.proofs.Segments.{withSegments, segments-boundary, segments-oldPlaces, segments-new, segments-count, segments-same}
 use Rattle.update.proofs.Crowded.{Removals, stays, remains-removals, removals-not-crowded}
 use Rattle.update.proofs.Room.{Kept, Last, Room, room-next, room-last}
 use Rattle.update.proofs.Spent.{spent-length}
@@ -27,8 +27,8 @@ use Rattle.update.proofs.Steps.{accepting}
 use Rattle.update.proofs.Writes.{written, three, written-first-alike, written-second-alike}
 
 -- the card has room for what the batch leaves: two places are free, or one, and nothing is left of the first old block
-abbrev pub Roomy : List ℕ → List ℕ → Type 0
-Roomy b c = Room (stays b) c (boundary c) (oldPlaces c) (newLength c) (placeCount c)
+abbrev pub RoomFor : List ℕ → List ℕ → Type 0
+RoomFor b c = Room (stays b) c (boundary c) (oldPlaces c) (newLength c) (placeCount c)
 
 -- the room at places is the same where their blocks are
 pub room-same : (g : ℕ → Bool) (c d : List ℕ) (k : ℕ) (is : List ℕ) (n m : ℕ) → Each (SameAt c d) is → Room g c k is n m → Room g d k is n m
@@ -37,17 +37,17 @@ room-same g c d k [] n m s (inr done) = inr done
 room-same g c d k (i ∷ is) n m s (inr done) = inr (rw (s .0 .block) done)
 
 -- words in free places leave it
-pub roomy-alike : (b c d : List ℕ) → Alike c d → Roomy b c → Roomy b d
-roomy-alike b c d a h =
+pub room-for-alike : (b c d : List ℕ) → Alike c d → RoomFor b c → RoomFor b d
+room-for-alike b c d a h =
     rw (boundary-alike c d a, oldPlaces-alike c d a, word-alike c d a 5 (omega arith), word-alike c d a 2 (omega arith))
     (room-same (stays b) c d (boundary c) (oldPlaces c) (newLength c) (placeCount c) (a .old) h)
 
 -- a configuration write leaves it where the segments that it sets have it
-pub roomy-configured : (b c : List ℕ) (s o n k : ℕ) → Facts c → Room (stays b) c k (around (placeCount c) s o) n (placeCount c) →
-    Roomy b (withSegments c s o n k)
-roomy-configured b c s o n k f h =
-    rw (configured-boundary c s o n k f, configured-oldPlaces c s o n k f, configured-new c s o n k f, configured-count c s o n k f)
-    (room-same (stays b) c (withSegments c s o n k) k (around (placeCount c) s o) n (placeCount c) (Each-all _ (configured-same c s o n k f) (around (placeCount c) s o)) h)
+pub room-for-configured : (b c : List ℕ) (s o n k : ℕ) → Facts c → Room (stays b) c k (around (placeCount c) s o) n (placeCount c) →
+    RoomFor b (withSegments c s o n k)
+room-for-configured b c s o n k f h =
+    rw (segments-boundary c s o n k f, segments-oldPlaces c s o n k f, segments-new c s o n k f, segments-count c s o n k f)
+    (room-same (stays b) c (withSegments c s o n k) k (around (placeCount c) s o) n (placeCount c) (Each-all _ (segments-same c s o n k f) (around (placeCount c) s o)) h)
 
 -- the configuration write in words that speak of the card before it
 configuration-goes-on : (c r : List ℕ) → goesOn (blockSize c) r ≡ true →
@@ -65,9 +65,9 @@ unfolding theWrite configuration
 configuration-ends c r ends = rw ends
 
 -- and the write of a step of removals does
-pub roomy-configuration : (b c : List ℕ) → Facts c → Words c → Removals b → Roomy b c → Roomy b (written c (remains c b) 3)
+pub room-for-configuration : (b c : List ℕ) → Facts c → Words c → Removals b → RoomFor b c → RoomFor b (written c (remains c b) 3)
 unfolding grown
-roomy-configuration b c f w o h =
+room-for-configuration b c f w o h =
     rw (remains-removals c b f o) (go (goesOn (blockSize c) (Kept (stays b) c (boundary c) (oldPlaces c))) refl)
   where
     g : ℕ → Bool
@@ -91,29 +91,29 @@ roomy-configuration b c f w o h =
     few : gone ≤ oldLength c
     few = rw length-is at (spent-length c (Last g c k is) is)
 
-    go : (t : Bool) → goesOn (blockSize c) (Kept g c k is) ≡ t → Roomy b (written c (Kept g c k is) 3)
+    go : (t : Bool) → goesOn (blockSize c) (Kept g c k is) ≡ t → RoomFor b (written c (Kept g c k is) 3)
     go true on =
         rw (configuration-goes-on c (Kept g c k is) on)
-        (roomy-configured b c (oldStart c + gone) (oldLength c - gone) (newLength c + 1) (Last g c k is) f
+        (room-for-configured b c (oldStart c + gone) (oldLength c - gone) (newLength c + 1) (Last g c k is) f
         (rw (← around-drop (placeCount c) (oldStart c) gone (oldLength c) few)
         (room-next g c k w (omega (arith, f .sizeLow)) is (newLength c) (placeCount c) 0 (f .oldRising) (goesOn-some _ _ on) room h .1)))
     go false ends =
         rw (configuration-ends c (Kept g c k is) ends)
-        (roomy-configured b c (oldStart c + oldLength c) (grown c (Kept g c k is)) 0 0 f
+        (room-for-configured b c (oldStart c + oldLength c) (grown c (Kept g c k is)) 0 0 f
         (inl (rw (length-around (placeCount c) (oldStart c + oldLength c) (grown c (Kept g c k is)))
         (omega (arith, room-last g c k is (newLength c) (placeCount c) room h)))))
 
 -- with room for them removals are never refused
-pub roomy-number : (b c : List ℕ) → judged c ≡ 0 → Words c → batchNumber b ≡ 0 → Removals b → Roomy b c → stepNumber c b ≡ 0
-roomy-number b c j w n o h =
+pub room-for-number : (b c : List ℕ) → judged c ≡ 0 → Words c → batchNumber b ≡ 0 → Removals b → RoomFor b c → stepNumber c b ≡ 0
+room-for-number b c j w n o h =
     accepting c b (record { sound = j; inOrder = n; free = removals-not-crowded c b (facts c j) w o h })
 
 -- and a step of removals keeps the room, whichever write it makes
-pub roomy-written : (b c : List ℕ) → Facts c → Words c → Removals b → Roomy b c → Roomy b (written c (remains c b) (nextWrite c (remains c b)))
+pub room-for-written : (b c : List ℕ) → Facts c → Words c → Removals b → RoomFor b c → RoomFor b (written c (remains c b) (nextWrite c (remains c b)))
 unfolding theWrite
-roomy-written b c f w o h =
+room-for-written b c f w o h =
     let r : List ℕ = remains c b in
-    three c r (λ x. Roomy b (written c r x))
-    (λ some. roomy-alike b c (written c r 1) (written-first-alike c r f) h)
-    (λ some placed. roomy-alike b c (written c r 2) (written-second-alike c r f) h)
-    (λ ready. roomy-configuration b c f w o h)
+    three c r (λ x. RoomFor b (written c r x))
+    (λ some. room-for-alike b c (written c r 1) (written-first-alike c r f) h)
+    (λ some placed. room-for-alike b c (written c r 2) (written-second-alike c r f) h)
+    (λ ready. room-for-configuration b c f w o h)

@@ -49,99 +49,99 @@ module _ (c : List ℕ) (s o n k : ℕ) (f : Facts c) where
   d = withSegments c s o n k
 
   -- its first words
-  pub configured-word : (i : ℕ) → i < 8 → word d i ≡ getD (configured c s o n k) i 0
+  pub segments-word : (i : ℕ) → i < 8 → word d i ≡ getD (configured c s o n k) i 0
   unfolding configured
-  configured-word i h =
+  segments-word i h =
       let z : i ≡ 0 + i = omega arith in
       ap (λ j. getD d j 0) z ∙ word-sets-same (configured c s o n k) c 0 i (omega (arith, f .long)) h
 
-  pub configured-format : format d ≡ format c
+  pub segments-format : format d ≡ format c
   unfolding configured
-  configured-format = configured-word 0 (omega arith)
+  segments-format = segments-word 0 (omega arith)
 
-  pub configured-size : blockSize d ≡ blockSize c
+  pub segments-size : blockSize d ≡ blockSize c
   unfolding configured
-  configured-size = configured-word 1 (omega arith)
+  segments-size = segments-word 1 (omega arith)
 
-  pub configured-count : placeCount d ≡ placeCount c
+  pub segments-count : placeCount d ≡ placeCount c
   unfolding configured
-  configured-count = configured-word 2 (omega arith)
+  segments-count = segments-word 2 (omega arith)
 
-  pub configured-start : oldStart d ≡ s % placeCount c
+  pub segments-start : oldStart d ≡ s % placeCount c
   unfolding configured
-  configured-start = configured-word 3 (omega arith)
+  segments-start = segments-word 3 (omega arith)
 
-  pub configured-old : oldLength d ≡ o
+  pub segments-old : oldLength d ≡ o
   unfolding configured
-  configured-old = configured-word 4 (omega arith)
+  segments-old = segments-word 4 (omega arith)
 
-  pub configured-new : newLength d ≡ n
+  pub segments-new : newLength d ≡ n
   unfolding configured
-  configured-new = configured-word 5 (omega arith)
+  segments-new = segments-word 5 (omega arith)
 
-  pub configured-term : boundaryTerm d ≡ term k
+  pub segments-term : boundaryTerm d ≡ term k
   unfolding configured
-  configured-term = configured-word 6 (omega arith)
+  segments-term = segments-word 6 (omega arith)
 
-  pub configured-position : boundaryPosition d ≡ position k
+  pub segments-position : boundaryPosition d ≡ position k
   unfolding configured
-  configured-position = configured-word 7 (omega arith)
+  segments-position = segments-word 7 (omega arith)
 
-  pub configured-boundary : boundary d ≡ k
-  configured-boundary = rw (configured-term, configured-position) (rank-term-position k)
+  pub segments-boundary : boundary d ≡ k
+  segments-boundary = rw (segments-term, segments-position) (rank-term-position k)
 
-  pub configured-oldPlaces : oldPlaces d ≡ around (placeCount c) s o
-  configured-oldPlaces = rw (configured-count, configured-start, configured-old) (around-mod (placeCount c) s o)
+  pub segments-oldPlaces : oldPlaces d ≡ around (placeCount c) s o
+  segments-oldPlaces = rw (segments-count, segments-start, segments-old) (around-mod (placeCount c) s o)
 
-  pub configured-newPlaces : newPlaces d ≡ around (placeCount c) (s + o) n
-  configured-newPlaces = rw (configured-count, configured-start, configured-old, configured-new) (around-mod-add (placeCount c) s o n)
+  pub segments-newPlaces : newPlaces d ≡ around (placeCount c) (s + o) n
+  segments-newPlaces = rw (segments-count, segments-start, segments-old, segments-new) (around-mod-add (placeCount c) s o n)
 
-  pub configured-length : length d ≡ length c
-  configured-length = length-sets c 0 (configured c s o n k)
+  pub segments-length : length d ≡ length c
+  segments-length = length-sets c 0 (configured c s o n k)
 
   -- every place and every map entry stands
-  pub configured-same : (i : ℕ) → SameAt c d i
+  pub segments-same : (i : ℕ) → SameAt c d i
   unfolding place configured
-  configured-same i =
+  segments-same i =
       record {
-        block = rw (configured-format, configured-size, configured-count) (ap (take (blockSize c)) (part-sets-after (configured c s o n k) c (placeAt c i) 0 (omega arith)));
-        mapped = rw configured-format (ap (take (entryWidth c)) (part-sets-after (configured c s o n k) c (entryAt c i) 0 (omega arith)));
+        block = rw (segments-format, segments-size, segments-count) (ap (take (blockSize c)) (part-sets-after (configured c s o n k) c (placeAt c i) 0 (omega arith)));
+        mapped = rw segments-format (ap (take (entryWidth c)) (part-sets-after (configured c s o n k) c (entryAt c i) 0 (omega arith)));
       }
 
   sames : (is : List ℕ) → Each (SameAt c d) is
-  sames is = Each-all _ configured-same is
+  sames is = Each-all _ segments-same is
 
   at : (is : List ℕ) → pairsAt d is ≡ pairsAt c is
   at is = pairsAt-alike c d is (sames is)
 
   -- The live pairs after the write are those of the places it names.
-  pub configured-live : live d ≡ pairsAt c (around (placeCount c) (s + o) n) ++ above k (pairsAt c (around (placeCount c) s o))
+  pub segments-live : live d ≡ pairsAt c (around (placeCount c) (s + o) n) ++ above k (pairsAt c (around (placeCount c) s o))
   unfolding live
-  configured-live = rw (configured-newPlaces, configured-oldPlaces, configured-boundary, at (around (placeCount c) (s + o) n), at (around (placeCount c) s o))
+  segments-live = rw (segments-newPlaces, segments-oldPlaces, segments-boundary, at (around (placeCount c) (s + o) n), at (around (placeCount c) s o))
 
   -- A write that fits leaves a sound card.
-  pub configured-sound : Fit c s o n k → judged d ≡ 0
+  pub segments-sound : Fit c s o n k → judged d ≡ 0
   unfolding boundaryWords around pairsAt last
-  configured-sound g =
+  segments-sound g =
       let N = placeCount c in
       sound d (record {
-        known = configured-format ∙ f .known;
-        sizeLow = rw configured-size (f .sizeLow);
-        sizeHigh = rw configured-size (f .sizeHigh);
-        countLow = rw configured-count (f .countLow);
-        countHigh = rw configured-count (f .countHigh);
-        long = rw (configured-length, configured-format, configured-size, configured-count) (f .long);
-        start = rw (configured-count, configured-start) (mod-lt s (omega (arith, f .countLow)));
-        room = rw (configured-count, configured-old, configured-new) (g .room);
+        known = segments-format ∙ f .known;
+        sizeLow = rw segments-size (f .sizeLow);
+        sizeHigh = rw segments-size (f .sizeHigh);
+        countLow = rw segments-count (f .countLow);
+        countHigh = rw segments-count (f .countHigh);
+        long = rw (segments-length, segments-format, segments-size, segments-count) (f .long);
+        start = rw (segments-count, segments-start) (mod-lt s (omega (arith, f .countLow)));
+        room = rw (segments-count, segments-old, segments-new) (g .room);
         boundWords =
-            rw (configured-new, configured-term, configured-position)
+            rw (segments-new, segments-term, segments-position)
             (bound-words n k (λ e. sym (g .lastNew) ∙ ap (λ m. last 0 (pairsAt c (around N (s + o) m))) e) (g .bound));
-        newSound = rw configured-newPlaces (blocksSound-alike c d (around N (s + o) n) (sames (around N (s + o) n)) ∙ g .newSound);
-        oldSound = rw configured-oldPlaces (blocksSound-alike c d (around N s o) (sames (around N s o)) ∙ g .oldSound);
-        newRising = rw (configured-newPlaces, at (around N (s + o) n)) (g .newRising);
-        oldRising = rw (configured-oldPlaces, at (around N s o)) (g .oldRising);
-        lastNew = rw (configured-newPlaces, at (around N (s + o) n), configured-boundary) (g .lastNew);
-        reaches = rw (configured-oldPlaces, configured-boundary) (firstReaches-alike c d k (around N s o) (sames (around N s o)) ∙ g .reaches);
+        newSound = rw segments-newPlaces (blocksSound-alike c d (around N (s + o) n) (sames (around N (s + o) n)) ∙ g .newSound);
+        oldSound = rw segments-oldPlaces (blocksSound-alike c d (around N s o) (sames (around N s o)) ∙ g .oldSound);
+        newRising = rw (segments-newPlaces, at (around N (s + o) n)) (g .newRising);
+        oldRising = rw (segments-oldPlaces, at (around N s o)) (g .oldRising);
+        lastNew = rw (segments-newPlaces, at (around N (s + o) n), segments-boundary) (g .lastNew);
+        reaches = rw (segments-oldPlaces, segments-boundary) (firstReaches-alike c d k (around N s o) (sames (around N s o)) ∙ g .reaches);
       })
 
   word-fits : Words c → (i : ℕ) → word c i < 4294967296
@@ -149,9 +149,9 @@ module _ (c : List ℕ) (s o n k : ℕ) (f : Facts c) where
   word-fits w i = w i
 
   -- It keeps 32-bit words.
-  pub configured-words : Words c → Fit c s o n k → term k < 4294967296 → Words d
+  pub segments-words : Words c → Fit c s o n k → term k < 4294967296 → Words d
   unfolding configured
-  configured-words w g h =
+  segments-words w g h =
       words-sets (configured c s o n k) c 0 w
       (words-cons _ _ (word-fits w 0) (words-cons _ _ (word-fits w 1) (words-cons _ _ (word-fits w 2)
       (words-cons _ _ (omega (arith, mod-lt s {m = placeCount c} (omega (arith, f .countLow)), f .countHigh)) (words-cons _ _ (omega (arith, g .room, f .countHigh)) (words-cons _ _ (omega (arith, g .room, f .countHigh))
