@@ -12,7 +12,7 @@ const ENTRY_COST: usize = 3;
 const POSITION_COST: usize = 1;
 
 // The most words of a block.
-const WORDS_MOST: usize = 1024;
+pub const WORDS_MOST: usize = 1024;
 
 // How many words are used, the rank of the last pair, 0 for none, and where its term's count stands.
 pub struct Packing {

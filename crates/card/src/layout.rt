@@ -8,6 +8,23 @@ use pair::Pair;
 // The words before the map.
 pub const CONFIGURATION_WORDS: usize = 8;
 
+// Where each of them stands.
+pub(crate) const FORMAT_AT: usize = 0;
+
+pub(crate) const SIZE_AT: usize = 1;
+
+pub(crate) const PLACES_AT: usize = 2;
+
+pub(crate) const OLD_START_AT: usize = 3;
+
+pub(crate) const OLD_LENGTH_AT: usize = 4;
+
+pub(crate) const NEW_LENGTH_AT: usize = 5;
+
+pub(crate) const BOUNDARY_TERM_AT: usize = 6;
+
+pub(crate) const BOUNDARY_POSITION_AT: usize = 7;
+
 // What the configuration words say. A field of 16 bits is its word's remainder by 65,536: of a sound card, the word.
 pub struct Configuration {
     pub format: u32,
@@ -40,16 +57,16 @@ impl Configuration {
         ensures { λ r. ⌜ ConfigurationOf (now (card .entry)) r ⌝ }
     {
         let boundary = Pair {
-            term: word(card, 6),
-            position: word(card, 7),
+            term: word(card, BOUNDARY_TERM_AT),
+            position: word(card, BOUNDARY_POSITION_AT),
         };
         Configuration {
-            format: word(card, 0),
-            size: short(card, 1),
-            places: short(card, 2),
-            old_start: short(card, 3),
-            old_length: short(card, 4),
-            new_length: short(card, 5),
+            format: word(card, FORMAT_AT),
+            size: short(card, SIZE_AT),
+            places: short(card, PLACES_AT),
+            old_start: short(card, OLD_START_AT),
+            old_length: short(card, OLD_LENGTH_AT),
+            new_length: short(card, NEW_LENGTH_AT),
             boundary: boundary.rank(),
         }
     }
@@ -62,14 +79,14 @@ impl Configuration {
             return;
         }
         let bound = Pair::of_rank(self.boundary);
-        words[0] = self.format;
-        words[1] = self.size as u32;
-        words[2] = self.places as u32;
-        words[3] = self.old_start as u32;
-        words[4] = self.old_length as u32;
-        words[5] = self.new_length as u32;
-        words[6] = bound.term;
-        words[7] = bound.position;
+        words[FORMAT_AT] = self.format;
+        words[SIZE_AT] = self.size as u32;
+        words[PLACES_AT] = self.places as u32;
+        words[OLD_START_AT] = self.old_start as u32;
+        words[OLD_LENGTH_AT] = self.old_length as u32;
+        words[NEW_LENGTH_AT] = self.new_length as u32;
+        words[BOUNDARY_TERM_AT] = bound.term;
+        words[BOUNDARY_POSITION_AT] = bound.position;
     }
 
     // The place j places on from a place, around the circle; 0 where there are no places.
@@ -109,7 +126,7 @@ pub fn width_of(_format: u32) -> u16
 pub fn entry_start(card: &[u32], i: u16) -> usize
     ensures { λ r. ⌜ r ≡ entryAt (now (card .entry)) i ⌝ }
 {
-    let width = width_of(word(card, 0));
+    let width = width_of(word(card, FORMAT_AT));
     CONFIGURATION_WORDS + width as usize * i as usize
 }
 
@@ -129,9 +146,9 @@ pub fn first_pair(card: &[u32], i: u16) -> u64
 pub fn place_start(card: &[u32], i: u16) -> usize
     ensures { λ r. ⌜ r ≡ placeAt (now (card .entry)) i ⌝ }
 {
-    let width = width_of(word(card, 0));
-    let size = word(card, 1) as usize;
-    let places = word(card, 2) as usize;
+    let width = width_of(word(card, FORMAT_AT));
+    let size = word(card, SIZE_AT) as usize;
+    let places = word(card, PLACES_AT) as usize;
     CONFIGURATION_WORDS + width as usize * places + i as usize * size
 }
 
@@ -154,7 +171,7 @@ fn part(card: &[u32], start: usize, count: usize) -> &[u32]
 pub fn entry(card: &[u32], i: u16) -> &[u32]
     ensures { λ r. ⌜ now r ≡ entry (now (card .entry)) i ⌝ }
 {
-    let width = width_of(word(card, 0));
+    let width = width_of(word(card, FORMAT_AT));
     part(card, entry_start(card, i), width as usize)
 }
 
@@ -162,6 +179,6 @@ pub fn entry(card: &[u32], i: u16) -> &[u32]
 pub fn place(card: &[u32], i: u16) -> &[u32]
     ensures { λ r. ⌜ now r ≡ place (now (card .entry)) i ⌝ }
 {
-    let size = word(card, 1);
+    let size = word(card, SIZE_AT);
     part(card, place_start(card, i), size as usize)
 }

@@ -6,12 +6,19 @@ ghost use lib.Dec.{ltb, eqb};
 ghost use Rattle.pair.specs.Tests.{firstOf};
 ghost use Rattle.card.specs.Layout.{widthOf, placeCount, oldPlaces, cardLength, inLimits, around, formatNumber, formatted};
 ghost use Rattle.card.specs.Sound.{firstReaches, configurationConditions, judged};
-ghost use Rattle.card.specs.code.Configuration.{ConfigurationOf};
 ghost use Rattle.card.specs.code.Scan.{Ordered, blockScanned, segmentSound, segmentScanned};
 use block::BlockScan;
 use block::UNFORMED;
+use layout::BOUNDARY_POSITION_AT;
+use layout::BOUNDARY_TERM_AT;
 use layout::CONFIGURATION_WORDS;
 use layout::Configuration;
+use layout::FORMAT_AT;
+use layout::NEW_LENGTH_AT;
+use layout::OLD_LENGTH_AT;
+use layout::OLD_START_AT;
+use layout::PLACES_AT;
+use layout::SIZE_AT;
 
 pub mod layout; // where the parts of a card stand
 
@@ -95,27 +102,31 @@ fn configuration_number(card: &[u32]) -> u32
     if card.len() < CONFIGURATION_WORDS {
         return WRONG_LENGTH;
     }
-    let format = card[0];
+    let format = card[FORMAT_AT];
     if format != FORMAT {
         return UNKNOWN_FORMAT;
     }
-    let b = card[1];
-    let n = card[2];
+    let b = card[SIZE_AT];
+    let n = card[PLACES_AT];
     if !in_limits(b, n) {
         return BAD_CONFIGURATION;
     }
     if card.len() != card_length(format, b, n) {
         return WRONG_LENGTH;
     }
-    if n <= card[3] {
+    if n <= card[OLD_START_AT] {
         return BAD_CONFIGURATION;
     }
-    let live = card[4] as u64 + card[5] as u64;
+    let live = card[OLD_LENGTH_AT] as u64 + card[NEW_LENGTH_AT] as u64;
     let most = (n - 1) as u64;
     if most < live {
         return BAD_CONFIGURATION;
     }
-    if !boundary_agrees(card[5], card[6], card[7]) {
+    if !boundary_agrees(
+        card[NEW_LENGTH_AT],
+        card[BOUNDARY_TERM_AT],
+        card[BOUNDARY_POSITION_AT],
+    ) {
         return BAD_CONFIGURATION;
     }
     0

@@ -1,6 +1,6 @@
 -- In the card that a step leaves, the write that it names stands where the step made its write; no other word has changed.
 use Prim.Native.Nat.{ℕ, _+_, _-_, _≤_, _<_}
-use mathlib.Core.Path.{_≡_, refl, sym, ap, _∙_}
+use mathlib.Core.Path.{_≡_, refl, sym}
 use mathlib.Core.Bool.{Bool, true, false, cond}
 use mathlib.Core.Logic.{_⊎_, inl, inr}
 use mathlib.Core.List.{List}
@@ -9,7 +9,6 @@ use lib.ListN.{length}
 use lib.Seq.{length-sets}
 use lib.Dec.{eqb}
 use borrow.Author.Tests.{eqb-true, eqb-false}
-use Rattle.pair.specs.Rank.{Words}
 use Rattle.block.specs.Block.{goesOn}
 use Rattle.card.specs.Layout.{word, blockSize, oldStart, oldLength}
 use Rattle.card.specs.Sound.{judged}
@@ -19,8 +18,8 @@ use Rattle.card.proofs.Parts.{word-sets-before, word-sets-after}
 use Rattle.update.specs.declared.WriteSpan.{WriteSpan}
 use Rattle.update.specs.Span.{writeSpan}
 use Rattle.update.specs.Step.{Write, withWrite, remains, configured, nextBoundary, freed, grown, configuration, nextWrite, theWrite, stepNumber, taken, refused, step}
-use Rattle.update.proofs.Frame.{size-alike, count-alike, duePlace-alike}
-use Rattle.update.proofs.Steps.{accepted, step-taken, step-refused, step-number}
+use Rattle.update.proofs.Frame.{duePlace-alike}
+use Rattle.update.proofs.Steps.{accepted, step-taken, step-refused}
 use Rattle.update.proofs.Writes.{written, length-due-block, length-due-entry, three, written-first-alike, written-second-alike}
 use Rattle.history.specs.Claims.{WriteStands}
 use Rattle.history.proofs.Events.{keeping-stepped}

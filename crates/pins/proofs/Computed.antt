@@ -1,8 +1,7 @@
 -- What the checker computes: every row of the table P1 to P8, P3 and P4 written out, and what the lists of events meet.
-use Prim.Native.Nat.{ℕ}
 use mathlib.Core.Path.{_≡_, refl}
 use mathlib.Core.Bool.{true, false}
-use mathlib.Core.List.{List, [], _∷_}
+use mathlib.Core.List.{[], _∷_}
 use lib.ListN.{length, take}
 use Rattle.pair.specs.Rank.{rank}
 use Rattle.pair.specs.Rising.{keep, above, within, risingFrom, insert, last, any}

@@ -1,20 +1,20 @@
 -- The planned write is the write of a step, for whatever remains with the due block in hand.
-use Prim.Native.Nat.{ℕ, _+_, _-_, _%_, _≤_, _<_}
+use Prim.Native.Nat.{ℕ, _+_, _-_, _≤_, _<_}
 use native.Mathlib.Omega.{arith}
 use mathlib.Core.Path.{_≡_, refl, sym, ap, _∙_}
-use mathlib.Core.Bool.{Bool, true, false, cond, _&&_, not}
+use mathlib.Core.Bool.{Bool, true, false, cond}
 use mathlib.Core.List.{List, [], _∷_}
 use lib.ListN.{length, take, getD, set}
 use lib.Seq.{take-length}
 use lib.Dec.{leb, eqb}
-use borrow.Author.Tests.{eq-eqb, ne-eqb, eqb-true, eqb-false, le-leb, lt-leb, le-ltb}
+use borrow.Author.Tests.{eq-eqb, ne-eqb, eqb-false, le-leb, lt-leb, le-ltb}
 use Rattle.pair.specs.Rank.{term, position, Proper}
 use Rattle.pair.specs.Rising.{Each, last}
 use Rattle.pair.specs.Tests.{same}
 use Rattle.block.specs.Block.{packedAfter, blockOf, due, goesOn}
 use Rattle.block.proofs.Due.{due-some, proper-due}
 use Rattle.card.specs.declared.layout.Configuration.{Configuration}
-use Rattle.card.specs.Layout.{configurationOf, format, blockSize, placeCount, oldStart, oldLength, newLength, entryWidth, entryAt, entry, placeAt, place, oldPlaces}
+use Rattle.card.specs.Layout.{configurationOf, format, blockSize, placeCount, oldStart, oldLength, newLength, entryAt, entry, placeAt, place, oldPlaces}
 use Rattle.card.specs.code.Configuration.{put}
 use Rattle.card.specs.code.Scan.{Ordered}
 use Rattle.card.proofs.Circle.{length-around}
@@ -22,7 +22,6 @@ use Rattle.card.proofs.Facts.{Facts}
 use Rattle.card.proofs.Ordered.{shaped, place-on}
 use Rattle.card.proofs.Parts.{part-sets-same, place-inside, entry-inside, width-low}
 use Rattle.update.specs.declared.StepAnswer.the-variants as answer
-use Rattle.update.specs.declared.WritePlan.{WritePlan}
 use Rattle.update.specs.declared.due.Due.{Due}
 use Rattle.update.specs.Answer.{answerOf}
 use Rattle.update.specs.Step.{duePlace, spent, configured, nextBoundary, freed, grown, configuration, dueBlock, dueEntry, nextWrite, theWrite, crowded, taken, refused}

@@ -13,6 +13,7 @@ ghost use Rattle.update.specs.Span.{writeSpan};
 ghost use Rattle.update.specs.Step.{step};
 ghost use Rattle.update.specs.Answer.{numberOf, writeOf, freedOf, finishedOf, answerOf};
 ghost use Rattle.update.specs.code.Plan.{Freed, followed, settling, Planned};
+use block::pack::WORDS_MOST;
 use card::layout;
 use card::layout::CONFIGURATION_WORDS;
 use card::layout::Configuration;
@@ -21,8 +22,6 @@ use due::Due;
 mod due;
 mod merge;
 mod old;
-
-const BLOCK_MOST: usize = 1024;
 
 // The words of a pair.
 const PAIR_WORDS: usize = 2;
@@ -256,7 +255,7 @@ pub fn step(card: &mut [u32], batch: &[u32]) -> StepAnswer
     }
     let k = Configuration::of(card);
     let size = k.size as usize;
-    let mut buffer = [0u32; BLOCK_MOST];
+    let mut buffer = [0u32; WORDS_MOST];
     advance(card, batch, &mut buffer[..size])
 }
 

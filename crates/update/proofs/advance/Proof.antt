@@ -1,13 +1,11 @@
 -- `update::advance` meets its contract: the planned write is the step's, and the card is left with it made.
 use native.Mathlib.Omega.{arith}
-use mathlib.Core.Path.{_≡_, sym, ap, _∙_}
-use mathlib.Core.List.{List}
+use mathlib.Core.Path.{sym, ap, _∙_}
 use denote.Ref.{now}
-use lib.ListN.{length, take}
-use lib.Seq.{sets, length-take-le}
+use lib.ListN.{length}
+use lib.Seq.{length-take-le}
 use Rattle.pair.specs.Rank.{Words}
 use Rattle.card.proofs.Facts.{facts}
-use Rattle.update.specs.Answer.{answerOf}
 use Rattle.update.specs.Step.{remains, step}
 use Rattle.update.specs.code.Plan.{PlanOf}
 use Rattle.update.proofs.Next.{remaining}

@@ -1,5 +1,4 @@
 -- `update::following` meets its contract, by whether pairs stand beyond the due block.
-use mathlib.Core.Path.{refl}
 use Rattle.update.specs.code.Plan.{followed}
 use borrow.Author.Needs.{needs}
 use Rattle.update.proofs.following.Statement.{statement}

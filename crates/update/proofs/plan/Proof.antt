@@ -8,7 +8,7 @@ use lib.ListN.{length, take, getD, set, length-set}
 use lib.Seq.{length-take-le}
 use borrow.Author.Tests.{not-true, not-false}
 use Rattle.pair.specs.Tests.{same}
-use Rattle.card.specs.Layout.{blockSize, placeCount, oldLength, newLength, entryAt, entry, placeAt, place}
+use Rattle.card.specs.Layout.{placeCount, oldLength, newLength, entry, place}
 use Rattle.card.specs.code.Scan.{Ordered}
 use Rattle.card.proofs.Facts.{Facts, facts}
 use Rattle.card.proofs.Ordered.{ordered-sound, length-put, due-place-on}

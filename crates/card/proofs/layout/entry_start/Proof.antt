@@ -1,6 +1,5 @@
 -- `card::layout::entry_start` meets its contract: no product of its numbers is too large.
 use native.Mathlib.Omega.{arith}
-use mathlib.Core.Path.{_≡_}
 use Rattle.card.proofs.Parts.{product-fits}
 use borrow.Author.Needs.{needs}
 use Rattle.card.proofs.layout.entry_start.Statement.{statement}

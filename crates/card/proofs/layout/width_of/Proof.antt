@@ -1,7 +1,6 @@
 -- `card::layout::width_of` meets its contract.
 use mathlib.Core.Path.{refl}
 use Rattle.card.specs.Layout.{widthOf}
-use borrow.Author.Needs.{needs}
 use Rattle.card.proofs.layout.width_of.Statement.{statement}
 use Rattle.card.proofs.layout.width_of.Tie as tie
 

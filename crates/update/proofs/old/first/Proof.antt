@@ -1,5 +1,4 @@
 -- `update::old::first` meets its contract: before the first pair the cursor stands.
-use mathlib.Core.Path.{_≡_}
 use Rattle.card.specs.code.Scan.{Ordered}
 use Rattle.card.proofs.Facts.{facts}
 use Rattle.card.proofs.Ordered.{ordered-sound}

@@ -1,9 +1,7 @@
 -- `update::old::next` meets its contract: each way of going on is one law of proofs/Cursor.
 use lib.Seq.{length-take-le}
-use Prim.Native.Nat.{_+_, _%_}
 use native.Mathlib.Omega.{arith}
 use mathlib.Core.Path.{_≡_, sym, ap, _∙_}
-use mathlib.Core.Bool.{false}
 use denote.Ref.{now}
 use Rattle.block.specs.code.Scan.{readsOn}
 use Rattle.card.specs.Layout.{blockSize, placeCount}
