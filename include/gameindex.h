@@ -110,11 +110,12 @@ uint32_t gi_judge(const uint32_t *card, size_t card_len);
 uint32_t gi_step(uint32_t *card, size_t card_len, const uint32_t *batch, size_t batch_len, uint32_t *write,
                  uint32_t *freed, uint32_t *finished);
 
-/* Tells where a write of gi_step stands in the card that the step left: in the
- * count words from card[start] on, and in no other word has that step changed
- * the card. These are the B words of the due place for write 1, its two map words
- * for write 2, the 8 configuration words for write 3; for any other write start
- * and count are 0.
+/* For the card that a step left and the write that this step named, tells where
+ * the write stands: in the count words from card[start] on, and in no other word
+ * has the step changed the card. These are the B words of the due place for write
+ * 1, the two words of its map entry for write 2, the 8 configuration words for
+ * write 3; for any other write start and count are 0. Ask before the next step:
+ * after a configuration write another place is due.
  *
  * Gives the judge's number for a card that is not sound; start and count are then
  * 0. Gives 0 otherwise. Writes nothing to the card. */

@@ -12,7 +12,7 @@ use Rattle.pair.specs.Rank.{Words}
 use Rattle.pair.specs.Rising.{above, keep, risingFrom, last}
 use Rattle.pair.proofs.FirstOf.{passed}
 use Rattle.pair.proofs.Tests.{and-left, and-right}
-use Rattle.card.specs.Layout.{word, format, boundary, widthOf, cardLength, inLimits, around, oldPlaces, newPlaces, pairsAt, live, formatNumber, formatted}
+use Rattle.card.specs.Layout.{word, format, boundary, widthOf, cardLength, inLimits, around, oldPlaces, newPlaces, pairsAt, live, formatNumber, formatted, configurationList}
 use Rattle.card.specs.Sound.{blocksSound, firstReaches, boundaryWords, judged}
 use Rattle.card.proofs.Facts.{sound}
 use Rattle.card.proofs.Parts.{part-sets-after, word-sets-same}
@@ -44,7 +44,7 @@ unfolding formatted
 formatted-refused c b n e = rw e
 
 abbrev fresh : ℕ → ℕ → List ℕ
-fresh b n = 1 ∷ b ∷ n ∷ 0 ∷ 0 ∷ 0 ∷ 0 ∷ 0 ∷ []
+fresh b n = configurationList 1 b n 0 0 0 0
 
 module _ (c : List ℕ) (b n : ℕ) (e : formatNumber c b n ≡ 0) where
   pub formatted-is : formatted c b n ≡ sets c 0 (fresh b n)

@@ -8,7 +8,7 @@ use lib.ListN.{length, take}
 use lib.Seq.{sets, length-sets}
 use Rattle.pair.specs.Rising.{Each}
 use Rattle.pair.proofs.Each.{Each-imply}
-use Rattle.card.specs.Layout.{blockSize, placeCount, oldStart, oldLength, newLength, entryWidth, entryAt, placeAt, place, oldPlaces, newPlaces}
+use Rattle.card.specs.Layout.{blockSize, placeCount, oldStart, oldLength, newLength, entryWidth, entryAt, placeAt, place, oldPlaces, newPlaces, duePlace}
 use Rattle.card.proofs.Circle.{mod-apart, each-around, around-add, around-more, Distinct, around-distinct}
 use Rattle.card.proofs.Parts.{part-sets-before, part-sets-after, part-sets-row, word-sets-before}
 use Rattle.card.proofs.Facts.{Facts}
@@ -25,7 +25,8 @@ pub record Free (c : List ℕ) (i : ℕ) : Type 0 where
   pub old : Each (Apart c i) (oldPlaces c)
 
 -- One place is always free: the place after the new segment lies in neither segment.
-pub due-free : (c : List ℕ) → Facts c → Free c ((oldStart c + oldLength c + newLength c) % placeCount c)
+pub due-free : (c : List ℕ) → Facts c → Free c (duePlace c)
+unfolding duePlace
 due-free c f =
     let n = placeCount c in
     let s = oldStart c in
@@ -39,7 +40,8 @@ due-free c f =
 
 -- The places of the old segment, those of the new segment and the place after it are all different.
 pub places-distinct :
-    (c : List ℕ) → Facts c → Distinct (oldPlaces c ++ (newPlaces c ++ ((oldStart c + oldLength c + newLength c) % placeCount c ∷ [])))
+    (c : List ℕ) → Facts c → Distinct (oldPlaces c ++ (newPlaces c ++ (duePlace c ∷ [])))
+unfolding duePlace
 places-distinct c f =
     let n = placeCount c in
     rw (← around-more n (oldStart c + oldLength c) (newLength c), ← around-add n (oldStart c) (oldLength c) (newLength c + 1))

@@ -13,8 +13,8 @@ use Rattle.card.specs.declared.SegmentScan.{SegmentScan}
 use Rattle.card.specs.declared.layout.Configuration.{Configuration}
 use Rattle.card.specs.Layout.{placeCount, oldLength, newLength, boundary, oldPlaces, newPlaces, pairsAt}
 use Rattle.card.specs.Sound.{blocksSound, firstReaches, configurationConditions, segmentsSound, judged}
-use Rattle.card.specs.code.Configuration.{ConfigurationOf}
-use Rattle.card.specs.code.Scan.{Ordered, segmentSound, segmentScanned}
+use Rattle.card.specs.code.Configuration.{ConfigurationOf, Ordered}
+use Rattle.card.specs.code.Scan.{segmentSound, segmentScanned}
 use Rattle.card.proofs.Judging.{tested}
 use Rattle.card.proofs.Limits.{limits}
 use Rattle.card.proofs.Ordered.{ordered}

@@ -10,9 +10,8 @@ use lib.Seq.{sets, length-sets}
 use lib.Dec.{ltb}
 use borrow.Author.Tests.{ne-eqb}
 use Rattle.card.specs.declared.layout.Configuration.{Configuration}
-use Rattle.card.specs.Layout.{configurationOf, placeCount, oldStart, oldLength, newLength, around}
-use Rattle.card.specs.code.Configuration.{ConfigurationOf, put, placeOn}
-use Rattle.card.specs.code.Scan.{Shaped, Ordered}
+use Rattle.card.specs.Layout.{configurationList, placeCount, oldStart, oldLength, newLength, around, duePlace}
+use Rattle.card.specs.code.Configuration.{ConfigurationOf, put, placeOn, Shaped, Ordered}
 use Rattle.card.proofs.Circle.{around-mod}
 use Rattle.card.proofs.Facts.{Facts}
 
@@ -52,9 +51,9 @@ unfolding put
 length-put ws k = go (ltb (length ws) 8)
   where
     go : (t : Bool) →
-        length (cond t ws (sets ws 0 (configurationOf (k .format) (k .size) (k .places) (k .«old_start») (k .«old_length») (k .«new_length») (k .boundary)))) ≡ length ws
+        length (cond t ws (sets ws 0 (configurationList (k .format) (k .size) (k .places) (k .«old_start») (k .«old_length») (k .«new_length») (k .boundary)))) ≡ length ws
     go true = refl
-    go false = length-sets ws 0 (configurationOf (k .format) (k .size) (k .places) (k .«old_start») (k .«old_length») (k .«new_length») (k .boundary))
+    go false = length-sets ws 0 (configurationList (k .format) (k .size) (k .places) (k .«old_start») (k .«old_length») (k .«new_length») (k .boundary))
 
 module _ {c : List ℕ} {k : Configuration} (o : Ordered c k) (start j : ℕ) where
   pub place-on : placeOn (k .places) start j ≡ (start + j) % placeCount c
@@ -66,7 +65,8 @@ module _ {c : List ℕ} {k : Configuration} (o : Ordered c k) (start j : ℕ) wh
 
 -- The place after the new segment.
 pub due-place-on : {c : List ℕ} {k : Configuration} → Ordered c k →
-    placeOn (k .places) (placeOn (k .places) (k .«old_start») (k .«old_length»)) (k .«new_length») ≡ (oldStart c + oldLength c + newLength c) % placeCount c
+    placeOn (k .places) (placeOn (k .places) (k .«old_start») (k .«old_length»)) (k .«new_length») ≡ duePlace c
+unfolding duePlace
 due-place-on {c} {k} o =
     rw (place-on o (k .«old_start») (k .«old_length»), place-on o ((k .«old_start» + k .«old_length») % placeCount c) (k .«new_length»), o .ofStart, o .ofOld, o .ofNew)
     (mod-add-mod (oldStart c + oldLength c) (placeCount c) (newLength c))

@@ -12,7 +12,7 @@ use lib.Dec.{ltb}
 use borrow.Author.Tests.{ltb-true, ltb-false}
 use Rattle.pair.specs.Rank.{rank}
 use Rattle.card.specs.Layout.{format, widthOf, blockSize, placeCount, entryWidth, entryAt, entry, placeAt, firstPair}
-use Rattle.card.specs.code.Scan.{Shaped}
+use Rattle.card.specs.code.Configuration.{Shaped}
 
 pub length-part : (c : List ℕ) (a n : ℕ) → a + n ≤ length c → length (take n (drop a c)) ≡ n
 length-part c a n h = rw (length-take, length-drop) (omega arith)

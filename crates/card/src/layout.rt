@@ -46,6 +46,7 @@ fn word(card: &[u32], at: usize) -> u32
     0
 }
 
+// Its remainder by 65,536.
 fn short(card: &[u32], at: usize) -> u16
     ensures { λ r. ⌜ r ≡ short (word (now (card .entry)) at) ⌝ }
 {
@@ -116,8 +117,8 @@ impl Configuration {
 }
 
 // The words of a map entry in a format.
-pub fn width_of(_format: u32) -> u16
-    ensures { λ r. ⌜ r ≡ widthOf «_format» ⌝ }
+pub fn width_of(format: u32) -> u16
+    ensures { λ r. ⌜ r ≡ widthOf format ⌝ }
 {
     2
 }

@@ -4,9 +4,11 @@ ghost use mathlib.Core.Bool.{cond, _&&_};
 ghost use Prim.Native.Nat.{_≤_, _<_};
 ghost use lib.Dec.{ltb, eqb};
 ghost use Rattle.pair.specs.Tests.{firstOf};
-ghost use Rattle.card.specs.Layout.{widthOf, placeCount, oldPlaces, cardLength, inLimits, around, formatNumber, formatted};
+ghost use Rattle.block.specs.Block.{blockSizeMost};
+ghost use Rattle.card.specs.Layout.{placeCountMost, widthOf, placeCount, oldPlaces, cardLength, inLimits, around, formatNumber, formatted};
 ghost use Rattle.card.specs.Sound.{firstReaches, configurationConditions, judged};
-ghost use Rattle.card.specs.code.Scan.{Ordered, blockScanned, segmentSound, segmentScanned};
+ghost use Rattle.card.specs.code.Configuration.{Ordered};
+ghost use Rattle.card.specs.code.Scan.{blockScanned, segmentSound, segmentScanned};
 use block::BlockScan;
 use block::UNFORMED;
 use layout::BOUNDARY_POSITION_AT;
@@ -55,7 +57,7 @@ fn in_limits(b: u32, n: u32) -> bool
 
 // The words of a card of a format.
 fn card_length(format: u32, b: u32, n: u32) -> usize
-    requires { ⌜ (b ≤ 1024) × (n ≤ 1024) ⌝ }
+    requires { ⌜ (b ≤ blockSizeMost) × (n ≤ placeCountMost) ⌝ }
     ensures { λ r. ⌜ r ≡ cardLength (widthOf format) b n ⌝ }
 {
     let width = layout::width_of(format);

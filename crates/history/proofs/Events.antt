@@ -8,15 +8,15 @@ use lib.ListN.{length, replicate, length-take}
 use lib.Dec.{eqb}
 use borrow.Author.Tests.{eqb-true}
 use Rattle.pair.specs.Rank.{Words}
-use Rattle.card.specs.Layout.{entryAt, placeAt, formatNumber, formatted}
+use Rattle.card.specs.Layout.{entryAt, placeAt, formatNumber, formatted, duePlace}
 use Rattle.pair.proofs.Words.{words-take, words-append, words-zeros, words-sets}
 use Rattle.card.proofs.Facts.{Facts, facts}
 use Rattle.card.proofs.Formatted.{formatted-refused}
-use Rattle.update.specs.Step.{withWrite, remains, duePlace, dueBlock, dueEntry, nextWrite, theWrite, stepNumber, taken, refused, step}
+use Rattle.update.specs.Step.{withWrite, remains, dueBlock, dueEntry, nextWrite, theWrite, stepNumber, taken, refused, step}
 use Rattle.update.proofs.Grown.{Remaining, DueWritten}
 use Rattle.update.proofs.Next.{remaining}
 use Rattle.update.proofs.Steps.{Accepted, accepted, step-taken, step-refused}
-use Rattle.update.proofs.Writes.{written, length-due-block, length-due-entry, three, alike-duePlace, alike-dueEntry, written-first-alike, written-second-alike, written-first-words, written-second-words}
+use Rattle.update.proofs.Writes.{written, length-due-block, length-due-entry, by-next-write, alike-duePlace, alike-dueEntry, written-first-alike, written-second-alike, written-first-words, written-second-words}
 use Rattle.history.specs.History.{History, started, landed, Event, stepped, cut, looked, restarted, formats, just, tornWrite, torn, after, Report, nothing, tells, told, OfWords}
 use Rattle.history.proofs.Keeping.{Keeping, keeping-alike, keeping-formatted, keeping-landed}
 
@@ -44,7 +44,7 @@ module _ (c b : List ℕ) (h : History) (k : Keeping c h) (wb : Words b) (z : st
   -- The write of a step that is not refused.
   keeping-written : Keeping (written c r (nextWrite c r)) (cond (eqb (nextWrite c r) 3) (landed b h) h)
   keeping-written =
-      three c r (λ w. Keeping (written c r w) (cond (eqb w 3) (landed b h) h))
+      by-next-write c r (λ w. Keeping (written c r w) (cond (eqb w 3) (landed b h) h))
       (λ some. keeping-alike c (written c r 1) h k (written-first-alike c r f) (written-first-words c r f (k .words) (m .proper)))
       (λ some placed. keeping-alike c (written c r 2) h k (written-second-alike c r f) (written-second-words c r f (k .words) (m .proper) some))
       (λ ready. keeping-landed c b h k m ready (a .free))
@@ -56,7 +56,7 @@ module _ (c b : List ℕ) (h : History) (k : Keeping c h) (wb : Words b) (z : st
       (cond (eqb (nextWrite c r) 3 && l) (landed b h) h)
   unfolding theWrite tornWrite
   keeping-cut ws l wd =
-      three c r (λ w. Keeping (cond (eqb w 3) (cond l (written c r w) c) (withWrite c (tornWrite (theWrite c r w) ws))) (cond (eqb w 3 && l) (landed b h) h))
+      by-next-write c r (λ w. Keeping (cond (eqb w 3) (cond l (written c r w) c) (withWrite c (tornWrite (theWrite c r w) ws))) (cond (eqb w 3 && l) (landed b h) h))
       (λ some. keeping-alike c _ h k (alike-duePlace c (torn-words (dueBlock c r)) f (omega (arith, length-due-block c r, length-just (length (dueBlock c r)) ws)))
       (words-sets (torn-words (dueBlock c r)) c (placeAt c (duePlace c)) (k .words) (words-just (length (dueBlock c r)) ws wd)))
       (λ some placed. keeping-alike c _ h k (alike-dueEntry c (torn-words (dueEntry r)) f (omega (arith, length-due-entry c r, length-just (length (dueEntry r)) ws)))

@@ -19,7 +19,7 @@ use Rattle.update.specs.Step.{withWrite, remains, dueBlock, dueEntry, nextWrite
 use Rattle.update.proofs.Crowded.{Removals}
 use Rattle.update.proofs.RoomKept.{RoomFor, room-for-alike, room-for-configuration, room-for-number, room-for-written}
 use Rattle.update.proofs.Steps.{step-taken}
-use Rattle.update.proofs.Writes.{written, length-due-block, length-due-entry, three, alike-duePlace, alike-dueEntry}
+use Rattle.update.proofs.Writes.{written, length-due-block, length-due-entry, by-next-write, alike-duePlace, alike-dueEntry}
 use Rattle.history.specs.History.{History, Event, stepped, cut, looked, restarted, formats, just, tornWrite, torn, after, tells, told, AllOfWords}
 use Rattle.history.specs.Claims.{Lends, Keeps, ran, freePlaces, RemovalsNeverFull}
 use Rattle.history.proofs.Keeping.{Keeping, itself, keeping-itself}
@@ -39,7 +39,7 @@ module _ (c b : List ℕ) (f : Facts c) (j : judged c ≡ 0) (w : Words c) (n : 
   unfolding torn taken theWrite tornWrite
   room-for-torn ws l =
       rw taking
-      (three c r P
+      (by-next-write c r P
       (λ some. room-for-alike b c _ (alike-duePlace c (just (length (dueBlock c r)) ws) f (omega (arith, length-due-block c r, length-just (length (dueBlock c r)) ws))) h)
       (λ some placed. room-for-alike b c _ (alike-dueEntry c (just (length (dueEntry r)) ws) f (omega (arith, length-due-entry c r, length-just (length (dueEntry r)) ws))) h)
       (λ ready. lands l))

@@ -18,7 +18,7 @@ use Rattle.update.specs.Step.{remains, nextWrite, theWrite, stepNumber, taken, 
 use Rattle.update.proofs.Grown.{DueWritten}
 use Rattle.update.proofs.Next.{remains-next}
 use Rattle.update.proofs.Steps.{accepted, step-taken, step-refused}
-use Rattle.update.proofs.Writes.{three}
+use Rattle.update.proofs.Writes.{by-next-write}
 use Rattle.history.specs.History.{toWrite, landed}
 use Rattle.history.specs.Claims.{Moved, MovedAll, MovesPast, RemainsNext}
 use Rattle.history.proofs.Keeping.{Keeping, itself, keeping-itself, keeping-boundary}
@@ -53,7 +53,7 @@ movesPast c b wc wb s w = (moved c b wc wb s w, movedAll c b wc wb s w)
 
 -- the third write is next only where the due block and its map entry are in place
 ready : (c r : List ℕ) → nextWrite c r ≡ 3 → 0 < length r → DueWritten c r
-ready c r = three c r (λ w. w ≡ 3 → 0 < length r → DueWritten c r) (λ h e. absurd (omega arith)) (λ h p e. absurd (omega arith)) (λ z e. z)
+ready c r = by-next-write c r (λ w. w ≡ 3 → 0 < length r → DueWritten c r) (λ h e. absurd (omega arith)) (λ h p e. absurd (omega arith)) (λ z e. z)
 
 pub remainsNext : RemainsNext
 unfolding RemainsNext taken refused theWrite

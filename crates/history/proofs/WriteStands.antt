@@ -1,4 +1,4 @@
--- In the card that a step leaves, the write that it names stands where the step made its write; no other word has changed.
+-- A step leaves the card with its write made; there the write that it names stands where the step made it, and no other word has changed.
 use Prim.Native.Nat.{ℕ, _+_, _-_, _≤_, _<_}
 use mathlib.Core.Path.{_≡_, refl, sym}
 use mathlib.Core.Bool.{Bool, true, false, cond}
@@ -19,8 +19,8 @@ use Rattle.update.specs.declared.WriteSpan.{WriteSpan}
 use Rattle.update.specs.Span.{writeSpan}
 use Rattle.update.specs.Step.{Write, withWrite, remains, configured, nextBoundary, freed, grown, configuration, nextWrite, theWrite, stepNumber, taken, refused, step}
 use Rattle.update.proofs.Frame.{duePlace-alike}
-use Rattle.update.proofs.Steps.{accepted, step-taken, step-refused}
-use Rattle.update.proofs.Writes.{written, length-due-block, length-due-entry, three, written-first-alike, written-second-alike}
+use Rattle.update.proofs.Steps.{accepted, step-taken, step-refused, step-writes}
+use Rattle.update.proofs.Writes.{written, length-due-block, length-due-entry, by-next-write, written-first-alike, written-second-alike}
 use Rattle.history.specs.Claims.{WriteStands}
 use Rattle.history.proofs.Events.{keeping-stepped}
 use Rattle.history.proofs.Keeping.{keeping-itself}
@@ -45,7 +45,7 @@ module _ (c r : List ℕ) (s : judged c ≡ 0) where
   spans : judged (written c r (nextWrite c r)) ≡ 0 → Spans (writeSpan (written c r (nextWrite c r)) (nextWrite c r)) (theWrite c r (nextWrite c r))
   unfolding writeSpan theWrite
   spans =
-      three c r (λ w. judged (written c r w) ≡ 0 → Spans (writeSpan (written c r w) w) (theWrite c r w))
+      by-next-write c r (λ w. judged (written c r w) ≡ 0 → Spans (writeSpan (written c r w) w) (theWrite c r w))
       (λ some j.
       let a = written-first-alike c r (facts c s) in
       let u = unmoved (written c r 1) a in
@@ -63,7 +63,7 @@ outside c w i (inr h) = word-sets-after (w .words) c (w .start) i h
 
 pub writeStands : WriteStands
 unfolding WriteStands taken refused
-writeStands c b wc wb = go (eqb (stepNumber c b) 0) refl
+writeStands c b wc wb = let s = go (eqb (stepNumber c b) 0) refl in (step-writes c b, s .0, s .1, s .2)
   where
     go : (t : Bool) → eqb (stepNumber c b) 0 ≡ t →
         let s = step c b in

@@ -13,7 +13,7 @@ use Rattle.card.specs.Layout.{word, placeCount, oldLength, newLength, blockSize
 use Rattle.card.specs.Sound.{judged}
 use Rattle.batch.specs.Batch.{Update, updates, anyUpdate, applied, batchNumber}
 use Rattle.update.specs.Span.{writeSpan}
-use Rattle.update.specs.Step.{remains, stepNumber, step}
+use Rattle.update.specs.Step.{withWrite, remains, stepNumber, step}
 use Rattle.update.specs.Pass.{stepLimit, finishesWithin, refusedWithin}
 use Rattle.lookup.specs.Found.{questionNumber, blocksRead, holders, lookup}
 use Rattle.reader.specs.Reader.{posting, ended, yielded, read}
@@ -108,13 +108,14 @@ RemainsNext =
     (c b : List ℕ) → Words c → Words b → step c b .write ≡ 3 → step c b .finished ≡ false →
     remains (step c b .card) b ≡ drop (fitting (blockSize c) 0 (remains c b)) (remains c b)
 
--- in the card that a step leaves, the write that it names stands where the step made its write; no other word has changed
+-- a step leaves the card with its write made; there the write that it names stands where the step made it, and no other word has changed
 unfoldable pub WriteStands : Type 0
 WriteStands =
     (c b : List ℕ) → Words c → Words b →
     let s = step c b in
     let p = writeSpan (s .card) (s .write) in
-    (s .number ≡ 0 → (p .number ≡ 0) × (p .start ≡ s .made .start) × (p .count ≡ length (s .made .words)))
+    (s .card ≡ withWrite c (s .made))
+    × (s .number ≡ 0 → (p .number ≡ 0) × (p .start ≡ s .made .start) × (p .count ≡ length (s .made .words)))
     × (length (s .card) ≡ length c)
     × ((i : ℕ) → (i < p .start) ⊎ (p .start + p .count ≤ i) → word (s .card) i ≡ word c i)
 

@@ -18,8 +18,7 @@ use Rattle.pair.proofs.Search.{Halved, halved-start, halved-up, halved-down, ha
 use Rattle.block.specs.Block.{pairs}
 use Rattle.card.specs.Layout.{placeCount, firstPair, place, around, pairsAt}
 use Rattle.card.specs.Sound.{blocksSound}
-use Rattle.card.specs.code.Configuration.{placeOn}
-use Rattle.card.specs.code.Scan.{Ordered}
+use Rattle.card.specs.code.Configuration.{placeOn, Ordered}
 use Rattle.card.specs.declared.layout.Configuration.{Configuration}
 use Rattle.card.proofs.Circle.{length-around}
 use Rattle.card.proofs.Ordered.{place-on}

@@ -14,8 +14,7 @@ use Rattle.block.specs.Block.{blockSizeMost, pairs, wordsBefore}
 use Rattle.block.specs.code.Wanted.{isWanted}
 use Rattle.block.proofs.Size.{block-size, length-size}
 use Rattle.card.specs.Layout.{blockSize, placeCount, oldStart, oldLength, newLength, boundary, placeAt, place, around, oldPlaces, newPlaces, pairsAt, live}
-use Rattle.card.specs.code.Configuration.{ConfigurationOf, placeOn}
-use Rattle.card.specs.code.Scan.{Ordered}
+use Rattle.card.specs.code.Configuration.{ConfigurationOf, placeOn, Ordered}
 use Rattle.card.specs.declared.layout.Configuration.{Configuration}
 use Rattle.card.proofs.Circle.{length-around}
 use Rattle.card.proofs.Facts.{Facts, facts}

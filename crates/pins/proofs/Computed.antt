@@ -7,10 +7,10 @@ use Rattle.pair.specs.Rank.{rank}
 use Rattle.pair.specs.Rising.{keep, above, within, risingFrom, insert, last, any}
 use Rattle.pair.specs.Tests.{same, firstOf}
 use Rattle.block.specs.Block.{zeros, pairsFrom, pairs, formedFrom, formed, leading, packedAfter, blockOf, fitting, due, goesOn}
-use Rattle.card.specs.Layout.{widthOf, firstPair, place, around, pairsAt, live, formatNumber, formatted}
+use Rattle.card.specs.Layout.{widthOf, firstPair, place, around, pairsAt, live, formatNumber, formatted, duePlace}
 use Rattle.card.specs.Sound.{blocksSound, firstReaches, boundaryWords, segmentsSound, judged}
 use Rattle.batch.specs.Batch.{updates, anyUpdate, adds, removes, withdrawn, withAdded, applied, illFormed, falls, batchNumber}
-use Rattle.update.specs.Step.{remains, duePlace, spent, configured, nextBoundary, freed, grown, configuration, dueBlock, dueEntry, nextWrite, theWrite, crowded, stepNumber, taken, refused, step}
+use Rattle.update.specs.Step.{remains, spent, configured, nextBoundary, freed, grown, configuration, dueBlock, dueEntry, nextWrite, theWrite, crowded, stepNumber, taken, refused, step}
 use Rattle.update.specs.Pass.{blocksFrom, blocks, finishesWithin, refusedWithin}
 use Rattle.lookup.specs.Found.{found, mappedTo, span, blocksRead, questionNumber, lookupNumber, lookup}
 use Rattle.history.specs.History.{just, tornWrite, torn}

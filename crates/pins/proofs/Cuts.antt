@@ -9,9 +9,9 @@ use lib.Seq.{sets, take-at}
 use borrow.Author.Tests.{ne-eqb}
 use Rattle.pair.specs.Rising.{above, atMost, last}
 use Rattle.block.specs.Block.{due, goesOn}
-use Rattle.card.specs.Layout.{widthOf, blockSize, placeCount, oldStart, oldLength, newLength}
+use Rattle.card.specs.Layout.{widthOf, blockSize, placeCount, oldStart, oldLength, newLength, duePlace}
 use Rattle.batch.specs.Batch.{updates, applied}
-use Rattle.update.specs.Step.{remains, duePlace, dueEntry, theWrite, stepNumber, refused, step}
+use Rattle.update.specs.Step.{remains, dueEntry, theWrite, stepNumber, refused, step}
 use Rattle.update.proofs.Steps.{step-refused, step-number, step-made}
 use Rattle.update.proofs.Writes.{length-due-block}
 use Rattle.history.specs.History.{History, toWrite, next, landed, just, tornWrite, torn}

@@ -1,15 +1,17 @@
 -- What is claimed of passes, written out.
-use Prim.Native.Nat.{ℕ, _+_, _*_, _-_, _≤_, _<_}
+use Prim.Native.Nat.{ℕ, _+_, _*_, _-_, _%_, _≤_, _<_}
 use mathlib.Core.Path.{_≡_}
 use mathlib.Core.Bool.{Bool, true, false, cond, _||_, or-false, or-assoc}
 use mathlib.Core.Logic.{inl, inr}
 use mathlib.Core.List.{List, [], _∷_}
 use lib.Dec.{eqb}
 use lib.ListN.{length, drop, getD}
+use lib.Seq.{sets}
+use borrow.Author.Tests.{ne-eqb}
 use Rattle.pair.specs.Rank.{Words}
 use Rattle.pair.specs.Rising.{above, atMost}
 use Rattle.block.specs.Block.{fitting}
-use Rattle.card.specs.Layout.{blockSize, placeCount, oldLength, newLength, boundary, live}
+use Rattle.card.specs.Layout.{blockSize, placeCount, oldLength, newLength, boundary, live, widthOf, oldStart, duePlace}
 use Rattle.card.specs.Sound.{judged}
 use Rattle.batch.specs.Batch.{updates, anyUpdate, applied, batchNumber}
 use Rattle.update.specs.Span.{writeSpan}
@@ -92,14 +94,43 @@ pub remains-beyond :
 unfolding RemainsNext
 remains-beyond = remainsNext
 
--- in the card that a step leaves, the write that it names stands where the step made its write; the length and every word before and after it are as before
+-- a step leaves the card with the words of its write set; there the write that it names stands where the step made it, and the length and every
+-- word before and after it are as before
 pub write-stands :
     (c b : List ℕ) → Words c → Words b →
     let d = step c b .card in
     let p = writeSpan d (step c b .write) in
-    (step c b .number ≡ 0 → (p .number ≡ 0) × (p .start ≡ step c b .made .start) × (p .count ≡ length (step c b .made .words)))
+    (d ≡ sets c (step c b .made .start) (step c b .made .words))
+    × (step c b .number ≡ 0 → (p .number ≡ 0) × (p .start ≡ step c b .made .start) × (p .count ≡ length (step c b .made .words)))
     × (length d ≡ length c)
     × ((i : ℕ) → i < p .start → getD d i 0 ≡ getD c i 0)
     × ((i : ℕ) → p .start + p .count ≤ i → getD d i 0 ≡ getD c i 0)
 unfolding WriteStands
-write-stands c b wc wb = let s = writeStands c b wc wb in (s .0, s .1, (λ i h. s .2 i (inl h)), λ i h. s .2 i (inr h))
+write-stands c b wc wb = let s = writeStands c b wc wb in (s .0, s .1, s .2, (λ i h. s .3 i (inl h)), λ i h. s .3 i (inr h))
+
+-- where each write stands in a sound card: the B words of the due place, the two words of its map entry, the 8 configuration words; no words
+-- for any other write, nor in a card that is not sound
+module _ (c : List ℕ) where
+  abbrev d : ℕ
+  d = (oldStart c + oldLength c + newLength c) % placeCount c
+
+  module _ (j : judged c ≡ 0) where
+    pub span-of-a-block : writeSpan c 1 ≡ record { number = 0; start = 8 + 2 * placeCount c + d * blockSize c; count = blockSize c }
+    unfolding writeSpan widthOf duePlace
+    span-of-a-block = rw j
+
+    pub span-of-an-entry : writeSpan c 2 ≡ record { number = 0; start = 8 + 2 * d; count = 2 }
+    unfolding writeSpan widthOf duePlace
+    span-of-an-entry = rw j
+
+    pub span-of-the-configuration : writeSpan c 3 ≡ record { number = 0; start = 0; count = 8 }
+    unfolding writeSpan
+    span-of-the-configuration = rw j
+
+    pub span-of-no-write : (w : ℕ) → (w ≡ 1 → ⊥) → (w ≡ 2 → ⊥) → (w ≡ 3 → ⊥) → writeSpan c w ≡ record { number = 0; start = 0; count = 0 }
+    unfolding writeSpan
+    span-of-no-write w x y z = rw (j, ne-eqb w 1 x, ne-eqb w 2 y, ne-eqb w 3 z)
+
+  pub span-refused : (judged c ≡ 0 → ⊥) → (w : ℕ) → writeSpan c w ≡ record { number = judged c; start = 0; count = 0 }
+  unfolding writeSpan
+  span-refused n w = let e : eqb (judged c) 0 ≡ false = ne-eqb (judged c) 0 n in rw e

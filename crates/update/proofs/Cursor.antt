@@ -22,7 +22,7 @@ use Rattle.card.specs.Sound.{blocksSound}
 use Rattle.card.proofs.Circle.{around-mod}
 use Rattle.card.proofs.Parts.{place-inside}
 use Rattle.update.specs.declared.old.OldCursor.{OldCursor}
-use Rattle.update.specs.code.Old.{rest, coming, pending, EntryAt, entryAtWords, Reading, Stands, Advanced}
+use Rattle.update.specs.code.Old.{rest, coming, pending, BlockEntry, entryRead, Reading, Stands, Advanced}
 
 -- the words of a block from a word on, one word at a time
 rest-step : (c : List ℕ) (at end : ℕ) → at < end → end ≤ length c → rest c at end ≡ getD c at 0 ∷ rest c (at + 1) end
@@ -113,7 +113,7 @@ entry-list a b q ws t p e f =
 
 -- what an entry at a word gives
 pub record Entered (c : List ℕ) (at end t : ℕ) : Type 0 where
-  pub entry : EntryAt c at end
+  pub entry : BlockEntry c at end
   pub pairs : pairsFrom (rest c at end) t 0 ≡ rank (getD c at 0) (getD c (at + 2) 0) ∷ pairsFrom (rest c (at + 3) end) (getD c at 0) (getD c (at + 1) 0 - 1)
   pub reading : Reading c (at + 3) end (getD c at 0) (getD c (at + 1) 0 - 1)
 
@@ -149,8 +149,8 @@ entered c at end t h l r e =
 entry-stands :
     (c : List ℕ) (o : OldCursor) (at end t m n : ℕ) → Stands c o → Entered c at end t → m < placeCount c →
     blocksSound c (around (placeCount c) m n) ≡ true → coming c o ≡ pairsFrom (rest c at end) t 0 ++ pairsAt c (around (placeCount c) m n) →
-    Advanced c o (entryAtWords c at end m n)
-unfolding entryAtWords
+    Advanced c o (entryRead c at end m n)
+unfolding entryRead
 entry-stands c o at end t m n s e k b f = go (found c o r (s .rising) comes)
   where
     r : OldCursor
@@ -174,10 +174,10 @@ entry-stands c o at end t m n s e k b f = go (found c o r (s .rising) comes)
           next = g .0;
         }
 
-pub entry-there : {c : List ℕ} {o : OldCursor} → Stands c o → o .count ≡ 0 → readsOn (rest c (o .at) (o .end)) ≡ true → EntryAt c (o .at) (o .end)
+pub entry-there : {c : List ℕ} {o : OldCursor} → Stands c o → o .count ≡ 0 → readsOn (rest c (o .at) (o .end)) ≡ true → BlockEntry c (o .at) (o .end)
 entry-there {c} {o} s z e = entered c (o .at) (o .end) (o .term) (s .inside) (s .ends) (rw z at (s .reading)) e .entry
 
-pub advanced-entry : {c : List ℕ} {o : OldCursor} → Stands c o → o .count ≡ 0 → readsOn (rest c (o .at) (o .end)) ≡ true → Advanced c o (entryAtWords c (o .at) (o .end) (o .place) (o .places))
+pub advanced-entry : {c : List ℕ} {o : OldCursor} → Stands c o → o .count ≡ 0 → readsOn (rest c (o .at) (o .end)) ≡ true → Advanced c o (entryRead c (o .at) (o .end) (o .place) (o .places))
 advanced-entry {c} {o} s z e =
     entry-stands c o (o .at) (o .end) (o .term) (o .place) (o .places) s (entered c (o .at) (o .end) (o .term) (s .inside) (s .ends) (rw z at (s .reading)) e) (s .within) (s .sound)
     (unfold coming in rw z)
@@ -251,7 +251,7 @@ place-entered {c} {o} s n =
 pub advanced-place :
     {c : List ℕ} {o : OldCursor} (p : ℕ) → p ≡ (o .place + 1) % placeCount c → Stands c o → o .count ≡ 0 →
     readsOn (rest c (o .at) (o .end)) ≡ false → (o .places ≡ 0 → ⊥) →
-    Advanced c o (entryAtWords c (placeAt c (o .place)) (placeAt c (o .place) + blockSize c) p (o .places - 1))
+    Advanced c o (entryRead c (placeAt c (o .place)) (placeAt c (o .place) + blockSize c) p (o .places - 1))
 advanced-place {c} {o} p h s z e n =
     let i = o .place in
     let m = o .places - 1 in

@@ -11,11 +11,11 @@ use Rattle.pair.specs.Rank.{Words}
 use Rattle.pair.proofs.Tests.{or-left, or-right}
 use Rattle.block.specs.Block.{fitting, goesOn}
 use Rattle.block.proofs.Due.{goesOn-some}
-use Rattle.card.specs.Layout.{blockSize, place}
+use Rattle.card.specs.Layout.{blockSize, place, duePlace}
 use Rattle.card.specs.Sound.{judged}
 use Rattle.card.proofs.Facts.{Facts, facts}
 use Rattle.card.proofs.Frame.{Alike, judged-alike}
-use Rattle.update.specs.Step.{remains, duePlace, dueBlock, nextWrite, theWrite, stepNumber, taken, step}
+use Rattle.update.specs.Step.{remains, dueBlock, nextWrite, theWrite, stepNumber, taken, step}
 use Rattle.update.specs.Pass.{blocks, stepLimit, finishesWithin, refusedWithin}
 use Rattle.update.proofs.Blocks.{blocks-next, blocks-none, blocks-some, blocks-goesOn}
 use Rattle.update.proofs.Frame.{size-alike, remains-alike}
@@ -23,14 +23,14 @@ use Rattle.update.proofs.Grown.{Remaining, DueWritten}
 use Rattle.update.proofs.Next.{remaining, next-first, next-second, remains-next}
 use Rattle.update.proofs.Settled.{configuration-sound, configuration-words, configuration-size}
 use Rattle.update.proofs.Steps.{Accepted, accepted, step-taken, step-number}
-use Rattle.update.proofs.Writes.{written, three, written-first-alike, written-first-words, written-second-alike, written-second-words}
+use Rattle.update.proofs.Writes.{written, by-next-write, written-first-alike, written-first-words, written-second-alike, written-second-words}
 
--- the work left: three writes for each block after the due one, and the writes left of the due one
+-- the work left: by-next-write writes for each block after the due one, and the writes left of the due one
 unfoldable pub work : List ℕ → List ℕ → ℕ
 work c b = 3 * (blocks (blockSize c) (remains c b) - 1) + (4 - nextWrite c (remains c b))
 
 next-range : (c r : List ℕ) → (1 ≤ nextWrite c r) × (nextWrite c r ≤ 3)
-next-range c r = three c r (λ w. (1 ≤ w) × (w ≤ 3)) (λ h. omega arith) (λ h e. omega arith) (λ h. omega arith)
+next-range c r = by-next-write c r (λ w. (1 ≤ w) × (w ≤ 3)) (λ h. omega arith) (λ h e. omega arith) (λ h. omega arith)
 
 -- it is one write at least
 pub work-some : (c b : List ℕ) → 1 ≤ work c b
@@ -84,7 +84,7 @@ turn : (c b : List ℕ) (n : ℕ) → Facts c → Words c → Words b → Accept
     (not (lastWrite c r w) && refusedWithin n (written c r w) b) ≡ false →
     (lastWrite c r w || finishesWithin n (written c r w) b) ≡ true
 unfolding theWrite
-turn c b n f wc wb a ih l = three c r P first second third refl
+turn c b n f wc wb a ih l = by-next-write c r P first second third refl
   where
     r : List ℕ
     r = remains c b

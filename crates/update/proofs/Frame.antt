@@ -4,9 +4,9 @@ use mathlib.Core.Path.{_≡_, refl}
 use mathlib.Core.List.{List, [], _∷_}
 use native.Mathlib.Omega.{arith}
 use Rattle.pair.specs.Rising.{Each}
-use Rattle.card.specs.Layout.{blockSize, placeCount, oldStart, oldLength, newLength, oldPlaces}
+use Rattle.card.specs.Layout.{blockSize, placeCount, oldStart, oldLength, newLength, oldPlaces, duePlace}
 use Rattle.card.proofs.Frame.{SameAt, Alike, word-alike, boundary-alike, oldPlaces-alike, live-alike}
-use Rattle.update.specs.Step.{remains, duePlace, spent, nextBoundary, freed, grown, dueBlock, crowded}
+use Rattle.update.specs.Step.{remains, spent, nextBoundary, freed, grown, dueBlock, crowded}
 
 spent-same : (c d : List ℕ) (k : ℕ) (is : List ℕ) → Each (SameAt c d) is → spent d k is ≡ spent c k is
 unfolding spent

@@ -14,13 +14,13 @@ use Rattle.pair.proofs.Order.{rank-term-position}
 use Rattle.pair.proofs.Rising.{rising-join, rising-weaker}
 use Rattle.block.specs.Block.{pairs, due, fitting}
 use Rattle.block.proofs.Due.{fitting-some, rising-due, pairs-dueBlock, formed-dueBlock}
-use Rattle.card.specs.Layout.{blockSize, placeCount, oldStart, oldLength, newLength, boundary, entry, firstPair, place, around, newPlaces, pairsAt}
+use Rattle.card.specs.Layout.{blockSize, placeCount, oldStart, oldLength, newLength, boundary, entry, firstPair, place, around, newPlaces, pairsAt, duePlace}
 use Rattle.card.specs.Sound.{blocksSound}
 use Rattle.card.proofs.Circle.{around-more}
 use Rattle.card.proofs.Facts.{Facts}
 use Rattle.card.proofs.Live.{pairsAt-append, blocksSound-append}
 use Rattle.card.proofs.Parts.{firstPair-entry}
-use Rattle.update.specs.Step.{duePlace, grown, dueBlock, dueEntry}
+use Rattle.update.specs.Step.{grown, dueBlock, dueEntry}
 
 -- what remains on a card: pairs, rising from the boundary
 pub record Remaining (c r : List ℕ) : Type 0 where

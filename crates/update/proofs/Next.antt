@@ -17,10 +17,10 @@ use Rattle.block.proofs.Due.{rising-due}
 use Rattle.batch.specs.Batch.{Update, updates, applied, batchNumber}
 use Rattle.batch.proofs.InOrder.{rising-batch, proper-batch}
 use Rattle.batch.proofs.Local.{above-applied}
-use Rattle.card.specs.Layout.{blockSize, boundary, entry, place, live}
+use Rattle.card.specs.Layout.{blockSize, boundary, entry, place, live, duePlace}
 use Rattle.card.proofs.Facts.{Facts, facts}
 use Rattle.card.proofs.Live.{live-rising, live-proper}
-use Rattle.update.specs.Step.{remains, duePlace, dueBlock, dueEntry, nextWrite, crowded}
+use Rattle.update.specs.Step.{remains, dueBlock, dueEntry, nextWrite, crowded}
 use Rattle.update.proofs.Configuration.{live-on, nextBoundary-on, mark-above, some}
 use Rattle.update.proofs.Frame.{duePlace-alike, dueBlock-alike}
 use Rattle.update.proofs.Grown.{Remaining, DueWritten}

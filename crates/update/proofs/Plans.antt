@@ -14,9 +14,8 @@ use Rattle.pair.specs.Tests.{same}
 use Rattle.block.specs.Block.{packedAfter, blockOf, due, goesOn}
 use Rattle.block.proofs.Due.{due-some, proper-due}
 use Rattle.card.specs.declared.layout.Configuration.{Configuration}
-use Rattle.card.specs.Layout.{configurationOf, format, blockSize, placeCount, oldStart, oldLength, newLength, entryAt, entry, placeAt, place, oldPlaces}
-use Rattle.card.specs.code.Configuration.{put}
-use Rattle.card.specs.code.Scan.{Ordered}
+use Rattle.card.specs.Layout.{configurationList, format, blockSize, placeCount, oldStart, oldLength, newLength, entryAt, entry, placeAt, place, oldPlaces, duePlace}
+use Rattle.card.specs.code.Configuration.{put, Ordered}
 use Rattle.card.proofs.Circle.{length-around}
 use Rattle.card.proofs.Facts.{Facts}
 use Rattle.card.proofs.Ordered.{shaped, place-on}
@@ -24,7 +23,7 @@ use Rattle.card.proofs.Parts.{part-sets-same, place-inside, entry-inside, width
 use Rattle.update.specs.declared.StepAnswer.the-variants as answer
 use Rattle.update.specs.declared.due.Due.{Due}
 use Rattle.update.specs.Answer.{answerOf}
-use Rattle.update.specs.Step.{duePlace, spent, configured, nextBoundary, freed, grown, configuration, dueBlock, dueEntry, nextWrite, theWrite, crowded, taken, refused}
+use Rattle.update.specs.Step.{spent, configured, nextBoundary, freed, grown, configuration, dueBlock, dueEntry, nextWrite, theWrite, crowded, taken, refused}
 use Rattle.update.specs.code.Due.{Answers}
 use Rattle.update.specs.code.Plan.{Freed, followed, settling, stepWith, PlanOf}
 use Rattle.update.proofs.Grown.{due-first}
@@ -43,6 +42,13 @@ freed-more c d e =
 pub freed-all : (c : List ℕ) (d : Due) → d .more ≡ false → Freed c d (oldLength c)
 unfolding freed
 freed-all c d e = record { few = omega arith; of = λ r ws a. rw (sym (a .beyond) ∙ e) }
+
+-- the room that a write leaves, by the configuration's fields and by the words
+pub free-words : {p n o m w l : ℕ} (f : ℕ) → p ≡ n → o ≡ m → w ≡ l → o - f + (w + 1) < p → m - f + (l + 1) < n
+free-words f a b c h = rw (← a, ← b, ← c) h
+
+pub crowded-words : {p n o m w l : ℕ} (f : ℕ) → p ≡ n → o ≡ m → w ≡ l → p ≤ o - f + (w + 1) → n ≤ m - f + (l + 1)
+crowded-words f a b c h = rw (← a, ← b, ← c) h
 
 -- the first pair of a block stands in its words
 block-first : (b : ℕ) (ks : List ℕ) → Each Proper ks → 0 < length ks → (getD (blockOf b ks) 0 0 ≡ term (getD ks 0 0)) × (getD (blockOf b ks) 2 0 ≡ position (getD ks 0 0))
@@ -63,7 +69,7 @@ module _ {c : List ℕ} {k : Configuration} {r ws : List ℕ} {d : Due} {n : ℕ
   -- the configuration that follows has the words of the configuration write
   followed-words : (g : ℕ) → g ≡ grown c r →
       let q = followed k d n g in
-      configurationOf (q .format) (q .size) (q .places) (q .«old_start») (q .«old_length») (q .«new_length») (q .boundary) ≡ configuration c r
+      configurationList (q .format) (q .size) (q .places) (q .«old_start») (q .«old_length») (q .«new_length») (q .boundary) ≡ configuration c r
   unfolding followed configuration configured
   followed-words g e = rw (place-on o (k .«old_start») n, o .ofFormat, o .ofSize, o .ofPlaces, o .ofStart, o .ofOld, is-freed, e, a .beyond, a .lastPair) (go (goesOn (blockSize c) r) refl)
     where
@@ -79,7 +85,7 @@ module _ {c : List ℕ} {k : Configuration} {r ws : List ℕ} {d : Due} {n : ℕ
   unfolding stepWith taken theWrite answerOf put
   plan-settled g e free next es l =
       let q = followed k d n g in
-      let ws = configurationOf (q .format) (q .size) (q .places) (q .«old_start») (q .«old_length») (q .«new_length») (q .boundary) in
+      let ws = configurationList (q .format) (q .size) (q .places) (q .«old_start») (q .«old_length») (q .«new_length») (q .boundary) in
       rw (free, next)
       (record {
         answer = rw (is-freed, a .beyond);

@@ -24,7 +24,7 @@ use Rattle.update.proofs.Crowded.{Removals, stays, remains-removals, re
 use Rattle.update.proofs.Room.{Kept, Last, Room, room-next, room-last}
 use Rattle.update.proofs.Spent.{spent-length}
 use Rattle.update.proofs.Steps.{accepting}
-use Rattle.update.proofs.Writes.{written, three, written-first-alike, written-second-alike}
+use Rattle.update.proofs.Writes.{written, by-next-write, written-first-alike, written-second-alike}
 
 -- the card has room for what the batch leaves: two places are free, or one, and nothing is left of the first old block
 abbrev pub RoomFor : List ℕ → List ℕ → Type 0
@@ -113,7 +113,7 @@ pub room-for-written : (b c : List ℕ) → Facts c → Words c → Removals b �
 unfolding theWrite
 room-for-written b c f w o h =
     let r : List ℕ = remains c b in
-    three c r (λ x. RoomFor b (written c r x))
+    by-next-write c r (λ x. RoomFor b (written c r x))
     (λ some. room-for-alike b c (written c r 1) (written-first-alike c r f) h)
     (λ some placed. room-for-alike b c (written c r 2) (written-second-alike c r f) h)
     (λ ready. room-for-configuration b c f w o h)

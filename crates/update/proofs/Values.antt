@@ -6,7 +6,7 @@ use mathlib.Core.List.{List}
 use lib.Dec.{eqb}
 use Rattle.update.specs.Answer.{numberOf, writeOf, freedOf, finishedOf, answerOf}
 use Rattle.update.specs.Step.{Step, remains, nextWrite, stepNumber, taken, refused, step}
-use Rattle.update.proofs.Writes.{three}
+use Rattle.update.proofs.Writes.{by-next-write}
 
 pub record Values (s : Step) : Type 0 where
   pub number : numberOf (answerOf s) ≡ s .number
@@ -21,7 +21,7 @@ of-refusal c n e = record { number = rw e; write = rw e; freed = rw e; finished 
 of-write : (c r : List ℕ) → Values (taken c r (nextWrite c r))
 unfolding answerOf taken
 of-write c r =
-    three c r (λ w. Values (taken c r w))
+    by-next-write c r (λ w. Values (taken c r w))
     (λ h. record { number = refl; write = refl; freed = refl; finished = refl })
     (λ h e. record { number = refl; write = refl; freed = refl; finished = refl })
     (λ h. record { number = refl; write = refl; freed = refl; finished = refl })

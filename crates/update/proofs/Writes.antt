@@ -16,14 +16,14 @@ use Rattle.pair.proofs.Tests.{and-left, and-right}
 use Rattle.pair.proofs.Each.{Each-getD}
 use Rattle.pair.proofs.Order.{position-word}
 use Rattle.block.proofs.Due.{length-dueBlock, words-dueBlock}
-use Rattle.card.specs.Layout.{widthOf, blockSize, placeCount, entryWidth, entryAt, entry, placeAt, place}
+use Rattle.card.specs.Layout.{widthOf, blockSize, placeCount, entryWidth, entryAt, entry, placeAt, place, duePlace}
 use Rattle.pair.proofs.Words.{words-sets, words-cons, words-nil}
 use Rattle.card.proofs.Facts.{Facts}
 use Rattle.card.proofs.Frame.{Alike}
 use Rattle.card.proofs.Free.{due-free, alike-place, alike-entry}
 use Rattle.card.proofs.Ordered.{shaped}
 use Rattle.card.proofs.Parts.{place-inside, entry-inside, part-sets-after, part-sets-same, word-sets-before}
-use Rattle.update.specs.Step.{duePlace, withWrite, dueBlock, dueEntry, nextWrite, theWrite}
+use Rattle.update.specs.Step.{withWrite, dueBlock, dueEntry, nextWrite, theWrite}
 use Rattle.update.proofs.Grown.{DueWritten}
 
 pub same-true : (xs ys : List ℕ) → same xs ys ≡ true → xs ≡ ys
@@ -40,7 +40,7 @@ unfolding same
 same-refl [] = refl
 same-refl (x ∷ xs) = rw (eq-eqb x x refl, same-refl xs)
 
--- the card after each of the three writes
+-- the card after each of the by-next-write writes
 abbrev pub written : List ℕ → List ℕ → ℕ → List ℕ
 written c r w = withWrite c (theWrite c r w)
 
@@ -60,14 +60,14 @@ unfolding nextWrite place
 next-write c r = rw (length-due-block c r, length-due-entry c r)
 
 -- It is the first, the second or the third, each with what then holds of the due place.
-pub three :
+pub by-next-write :
     (c r : List ℕ) (P : ℕ → Type 0) →
     (0 < length r → P 1) →
     (0 < length r → place c (duePlace c) ≡ dueBlock c r → P 2) →
     ((0 < length r → DueWritten c r) → P 3) →
     P (nextWrite c r)
-three c [] P first second third = rw (next-write c []) (third (λ h. absurd (omega arith)))
-three c (x ∷ xs) P first second third =
+by-next-write c [] P first second third = rw (next-write c []) (third (λ h. absurd (omega arith)))
+by-next-write c (x ∷ xs) P first second third =
     rw (next-write c r, eqb·suc-zero (length xs)) (go (same (place c (duePlace c)) (dueBlock c r)) refl (same (entry c (duePlace c)) (dueEntry r)) refl)
   where
     r : List ℕ
@@ -81,16 +81,13 @@ three c (x ∷ xs) P first second third =
 
 -- Any words in the due place leave the card alike.
 pub alike-duePlace : (c ws : List ℕ) → Facts c → length ws ≤ blockSize c → Alike c (sets c (placeAt c (duePlace c)) ws)
-unfolding duePlace
 alike-duePlace c ws f h = alike-place c ws _ (due-free c f) h
 
 -- Any words in its map entry do too.
 pub alike-dueEntry : (c ws : List ℕ) → Facts c → length ws ≤ entryWidth c → Alike c (sets c (entryAt c (duePlace c)) ws)
-unfolding duePlace
 alike-dueEntry c ws f h = alike-entry c ws _ (due-free c f) h
 
 pub due-inside : (c : List ℕ) → Facts c → duePlace c < placeCount c
-unfolding duePlace
 due-inside c f = due-free c f .inside
 
 module _ (c r : List ℕ) (f : Facts c) where

@@ -3,10 +3,9 @@ use Prim.Native.Nat.{ℕ}
 use mathlib.Core.Bool.{cond, not}
 use mathlib.Core.List.{List}
 use lib.Dec.{eqb}
-use Rattle.card.specs.Layout.{configurationWords, blockSize, entryWidth, entryAt, placeAt}
+use Rattle.card.specs.Layout.{configurationWords, blockSize, entryWidth, entryAt, placeAt, duePlace}
 use Rattle.card.specs.Sound.{judged}
 use Rattle.update.specs.declared.WriteSpan.{WriteSpan}
-use Rattle.update.specs.Step.{duePlace}
 
 -- a number, and count words of the card from the word at start on
 abbrev span : ℕ → ℕ → ℕ → WriteSpan

@@ -2,7 +2,7 @@
 ghost use mathlib.Core.Path.{_≡_};
 ghost use Rattle.card.specs.Layout.{oldPlaces};
 ghost use Rattle.card.specs.Sound.{judged};
-ghost use Rattle.update.specs.code.Old.{EntryAt, entryAtWords, Stands, Advanced, Skipped, beforeFirst};
+ghost use Rattle.update.specs.code.Old.{BlockEntry, entryRead, Stands, Advanced, Skipped, beforeFirst};
 ghost use Rattle.update.specs.Step.{spent};
 use block::wanted::reads_on;
 use card::layout;
@@ -23,8 +23,8 @@ pub(crate) struct OldCursor {
 
 // Reads the first pair of the entry at a word.
 fn entry(card: &[u32], at: usize, end: usize, place: u16, places: u16) -> OldCursor
-    requires { ⌜ EntryAt (now card) at end ⌝ }
-    ensures { λ r. ⌜ r ≡ entryAtWords (now (card .entry)) at end place places ⌝ }
+    requires { ⌜ BlockEntry (now card) at end ⌝ }
+    ensures { λ r. ⌜ r ≡ entryRead (now (card .entry)) at end place places ⌝ }
 {
     let term = card[at];
     let count = card[at + 1] as usize;

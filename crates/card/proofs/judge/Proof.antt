@@ -8,7 +8,8 @@ use borrow.Author.Tests.{not-true, not-false}
 use Rattle.pair.specs.Tests.{firstOf}
 use Rattle.card.specs.Layout.{oldStart, oldLength, newLength, newPlaces}
 use Rattle.card.specs.Sound.{configurationConditions, judged}
-use Rattle.card.specs.code.Scan.{Ordered, segmentScanned}
+use Rattle.card.specs.code.Configuration.{Ordered}
+use Rattle.card.specs.code.Scan.{segmentScanned}
 use Rattle.card.proofs.Judged.{configured, judged-early, judged-new, judged-old}
 use Rattle.card.proofs.Ordered.{around-on}
 use borrow.Author.Needs.{needs}

@@ -12,26 +12,6 @@ use Rattle.card.specs.declared.layout.Configuration.{Configuration}
 use Rattle.card.specs.Layout.{placeCountMost, format, blockSize, placeCount, oldStart, oldLength, newLength, boundary, entryWidth, cardLength, place, pairsAt}
 use Rattle.card.specs.Sound.{liveBlock, blocksSound}
 
--- the block size and the count of places are within their limits, and the card has the length that they give
-pub record Shaped (c : List ℕ) : Type 0 where
-  pub sizeHigh : blockSize c ≤ blockSizeMost
-  pub countLow : 2 ≤ placeCount c
-  pub countHigh : placeCount c ≤ placeCountMost
-  pub long : length c ≡ cardLength (entryWidth c) (blockSize c) (placeCount c)
-
--- the configuration words are in order, and the configuration by value says what they say
-pub record Ordered (c : List ℕ) (k : Configuration) : Type 0 where
-  pub shaped : Shaped c
-  pub ofFormat : k .format ≡ format c
-  pub ofSize : k .size ≡ blockSize c
-  pub ofPlaces : k .places ≡ placeCount c
-  pub ofStart : k .«old_start» ≡ oldStart c
-  pub ofOld : k .«old_length» ≡ oldLength c
-  pub ofNew : k .«new_length» ≡ newLength c
-  pub ofBoundary : k .boundary ≡ boundary c
-  pub start : oldStart c < placeCount c
-  pub room : oldLength c + newLength c < placeCount c
-
 unfoldable pub blockScanned : List ℕ → ℕ → BlockScan
 blockScanned c i =
     record {

@@ -10,7 +10,7 @@ use Rattle.pair.specs.Rising.{risingFrom}
 use Rattle.block.specs.code.Wanted.{isWanted}
 use Rattle.card.specs.Layout.{placeCount, around, pairsAt}
 use Rattle.card.specs.Sound.{blocksSound}
-use Rattle.card.specs.code.Scan.{Ordered}
+use Rattle.card.specs.code.Configuration.{Ordered}
 use Rattle.card.specs.declared.layout.Configuration.{Configuration}
 use Rattle.lookup.specs.declared.walk.Stretch.{Stretch}
 use Rattle.lookup.specs.declared.walk.Walk.{Walk}

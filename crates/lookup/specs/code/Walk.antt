@@ -11,7 +11,7 @@ use Rattle.block.specs.Block.{pairs, wordsBefore, formed}
 use Rattle.block.specs.code.Wanted.{isWanted}
 use Rattle.block.specs.declared.wanted.Part.{Part}
 use Rattle.card.specs.Layout.{placeCount, placeAt, place, around, pairsAt}
-use Rattle.card.specs.code.Scan.{Shaped}
+use Rattle.card.specs.code.Configuration.{Shaped}
 use Rattle.lookup.specs.declared.walk.Stretch.{Stretch}
 use Rattle.lookup.specs.declared.walk.Walk.{Walk}
 use Rattle.lookup.specs.declared.walk.StretchRun.{StretchRun}

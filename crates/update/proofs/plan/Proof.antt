@@ -8,13 +8,11 @@ use lib.ListN.{length, take, getD, set, length-set}
 use lib.Seq.{length-take-le}
 use borrow.Author.Tests.{not-true, not-false}
 use Rattle.pair.specs.Tests.{same}
-use Rattle.card.specs.Layout.{placeCount, oldLength, newLength, entry, place}
-use Rattle.card.specs.code.Scan.{Ordered}
+use Rattle.card.specs.Layout.{placeCount, oldLength, newLength, entry, place, duePlace}
+use Rattle.card.specs.code.Configuration.{Ordered}
 use Rattle.card.proofs.Facts.{Facts, facts}
 use Rattle.card.proofs.Ordered.{ordered-sound, length-put, due-place-on}
-use Rattle.update.specs.Step.{duePlace}
-use Rattle.update.proofs.Plans.{plan-none, plan-crowded, plan-block, plan-entry, plan-done}
-use mathlib.Core.Path.{_≡_}
+use Rattle.update.proofs.Plans.{free-words, crowded-words, plan-none, plan-crowded, plan-block, plan-entry, plan-done}
 use borrow.Author.Needs.{needs}
 use Rattle.update.proofs.plan.Statement.{statement}
 use Rattle.update.proofs.plan.Tie as tie
@@ -49,10 +47,9 @@ used : (c : tie.Else2) → S c .args .due .used ≡ 0 → ⊥
 used c = c .before .before .before .before .if1 .left
 
 room : (c : tie.Else2) → oldLength (W (S c)) - N c .freed .result + (newLength (W (S c)) + 1) < placeCount (W (S c))
-room c = omega (arith, O c .ofPlaces, O c .ofOld, O c .ofNew, c .if2 .left)
+room c = free-words _ (O c .ofPlaces) (O c .ofOld) (O c .ofNew) (c .if2 .left)
 
 due-at : (c : tie.After-due-place) → c .due-place .result ≡ duePlace (W (S (c .before)))
-unfolding duePlace
 due-at c = c .due-place .ensures ∙ due-place-on (O (c .before))
 
 compared : (c : tie.After-same) → let s = S (c .before .before .before .before) in c .same .result ≡ same (place (W s) (duePlace (W s))) (K s)
@@ -117,7 +114,7 @@ returns-2 c = let u = c .before .before .before .before in
     let o = in-order (n .before) in
     record {
       few = omega arith;
-      of = λ r p a. plan-crowded (F s) o a (n .freed .ensures) (u .if1 .left) (K s) (omega (arith, o .ofPlaces, o .ofOld, o .ofNew, c .if2 .taken));
+      of = λ r p a. plan-crowded (F s) o a (n .freed .ensures) (u .if1 .left) (K s) (crowded-words _ (o .ofPlaces) (o .ofOld) (o .ofNew) (c .if2 .taken));
     }
 
 due-place-requires : tie.Need-due-place-requires

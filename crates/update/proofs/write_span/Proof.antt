@@ -1,15 +1,15 @@
 -- `update::write_span` meets its contract: each return is one case of the definition.
+use Rattle.card.specs.Layout.{duePlace}
 use Prim.Native.Nat.{ℕ}
 use mathlib.Core.Path.{_≡_, sym, _∙_}
 use mathlib.Core.List.{List}
 use denote.Ref.{now}
 use borrow.Author.Tests.{ne-eqb}
 use Rattle.card.specs.Sound.{judged}
-use Rattle.card.specs.code.Scan.{Ordered}
+use Rattle.card.specs.code.Configuration.{Ordered}
 use Rattle.card.proofs.Facts.{facts}
 use Rattle.card.proofs.Ordered.{ordered-sound, due-place-on}
 use Rattle.update.specs.Span.{writeSpan}
-use Rattle.update.specs.Step.{duePlace}
 use borrow.Author.Needs.{needs}
 use Rattle.update.proofs.write_span.Statement.{statement}
 use Rattle.update.proofs.write_span.Tie as tie
@@ -25,7 +25,6 @@ in-order : (c : tie.After-of) → Ordered (W (c .before)) (c .of .result)
 in-order c = ordered-sound (facts _ (J (c .before))) (c .of .ensures)
 
 due-at : (c : tie.After-due-place) → c .due-place .result ≡ duePlace (W (c .before .before))
-unfolding duePlace
 due-at c = c .due-place .ensures ∙ due-place-on (in-order (c .before))
 
 judge-requires : tie.Need-judge-requires

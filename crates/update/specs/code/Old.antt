@@ -9,7 +9,7 @@ use Rattle.pair.specs.Rank.{rank}
 use Rattle.pair.specs.Rising.{above, risingFrom}
 use Rattle.block.specs.Block.{pairsFrom, formedFrom}
 use Rattle.card.specs.Layout.{placeCount, oldStart, oldLength, around, pairsAt}
-use Rattle.card.specs.code.Scan.{Shaped}
+use Rattle.card.specs.code.Configuration.{Shaped}
 use Rattle.card.specs.Sound.{blocksSound}
 use Rattle.update.specs.declared.old.OldCursor.{OldCursor}
 
@@ -30,14 +30,14 @@ abbrev pub beforeFirst : List ℕ → OldCursor
 beforeFirst c = record { place = oldStart c; places = oldLength c; at = 0; end = 0; term = 0; count = 0; rank = 0 }
 
 -- an entry stands at the word at of a block that ends at end
-pub record EntryAt (c : List ℕ) (at end : ℕ) : Type 0 where
+pub record BlockEntry (c : List ℕ) (at end : ℕ) : Type 0 where
   pub inside : at + 2 < end
   pub ends : end ≤ length c
   pub counted : 0 < getD c (at + 1) 0
 
 -- its first pair is read
-unfoldable pub entryAtWords : List ℕ → ℕ → ℕ → ℕ → ℕ → OldCursor
-entryAtWords c at end place places =
+unfoldable pub entryRead : List ℕ → ℕ → ℕ → ℕ → ℕ → OldCursor
+entryRead c at end place places =
     record {
       place = place;
       places = places;

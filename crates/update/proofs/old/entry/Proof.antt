@@ -1,7 +1,7 @@
 -- `update::old::entry` meets its contract.
 use native.Mathlib.Omega.{arith}
 use Prim.Native.Nat.{_+_}
-use Rattle.update.specs.code.Old.{entryAtWords}
+use Rattle.update.specs.code.Old.{entryRead}
 use borrow.Author.Needs.{needs}
 use Rattle.update.proofs.old.entry.Statement.{statement}
 use Rattle.update.proofs.old.entry.Tie as tie
@@ -43,7 +43,7 @@ rank-requires : tie.Need-rank-requires
 rank-requires c κs = search needs
 
 returns : tie.Need-returns
-unfolding entryAtWords
+unfolding entryRead
 returns c = rw (c .rank .ensures)
 
 pub entry-spec : {M : Type 1} → statement M

@@ -1,5 +1,5 @@
 -- `update::old::first` meets its contract: before the first pair the cursor stands.
-use Rattle.card.specs.code.Scan.{Ordered}
+use Rattle.card.specs.code.Configuration.{Ordered}
 use Rattle.card.proofs.Facts.{facts}
 use Rattle.card.proofs.Ordered.{ordered-sound}
 use Rattle.update.proofs.Skipping.{beforeFirst-stands}

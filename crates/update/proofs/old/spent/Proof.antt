@@ -6,7 +6,7 @@ use Rattle.pair.specs.Rank.{Words}
 use Rattle.block.specs.code.Scan.{scanned}
 use Rattle.block.specs.declared.BlockScan.{BlockScan}
 use Rattle.card.specs.Layout.{placeCount, oldStart, oldLength, place}
-use Rattle.card.specs.code.Scan.{Ordered}
+use Rattle.card.specs.code.Configuration.{Ordered}
 use Rattle.card.proofs.Facts.{facts}
 use Rattle.card.proofs.Ordered.{ordered-sound, place-on}
 use Rattle.update.proofs.Skipping.{Freeing, freeing-start, freeing-turn, freeing-stop, freeing-end}
