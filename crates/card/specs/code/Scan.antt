@@ -1,15 +1,13 @@
 -- What the judge's walk over live blocks tells.
-use Prim.Native.Nat.{ℕ, _+_, _≤_, _<_}
-use mathlib.Core.Path.{_≡_}
+use Prim.Native.Nat.{ℕ}
 use mathlib.Core.Bool.{Bool, cond, _&&_}
 use mathlib.Core.List.{List}
-use lib.ListN.{length, getD}
+use lib.ListN.{getD}
 use Rattle.pair.specs.Rising.{risingFrom, last}
-use Rattle.block.specs.Block.{blockSizeMost, pairs, formed}
+use Rattle.block.specs.Block.{pairs, formed}
 use Rattle.block.specs.declared.BlockScan.{BlockScan}
 use Rattle.card.specs.declared.SegmentScan.{SegmentScan}
-use Rattle.card.specs.declared.layout.Configuration.{Configuration}
-use Rattle.card.specs.Layout.{placeCountMost, format, blockSize, placeCount, oldStart, oldLength, newLength, boundary, entryWidth, cardLength, place, pairsAt}
+use Rattle.card.specs.Layout.{place, pairsAt}
 use Rattle.card.specs.Sound.{liveBlock, blocksSound}
 
 unfoldable pub blockScanned : List ℕ → ℕ → BlockScan
