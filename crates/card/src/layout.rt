@@ -54,6 +54,7 @@ fn short(card: &[u32], at: usize) -> u16
 }
 
 impl Configuration {
+    // What the configuration words of a card say.
     pub fn of(card: &[u32]) -> Configuration
         ensures { λ r. ⌜ ConfigurationOf (now (card .entry)) r ⌝ }
     {
