@@ -1,6 +1,7 @@
 /* Times the library's judge against the plain C judge, on the largest card:
  * B = N = 1,024 with 1,023 live places, once of long entries and once of short
- * ones. The two judges take turns on the same card, call by call, and the best
+ * ones; and on one of the smallest blocks, where each block costs more than its
+ * words. The two judges take turns on the same card, call by call, and the best
  * call of each counts. */
 #include <inttypes.h>
 #include <stdbool.h>
@@ -10,7 +11,11 @@
 #include "bench.h"
 #include "judge_c.h"
 
-enum { LIVE_WORDS = LIVE_PLACES * BLOCK_WORDS, CALLS = 300 /* of each judge */ };
+enum {
+    CALLS = 300, /* of each judge */
+    SMALL_BLOCK_WORDS = 8,
+    SMALL_CARD_WORDS = GI_CONFIG_WORDS + PLACES * (GI_MAP_ENTRY_WORDS + SMALL_BLOCK_WORDS),
+};
 
 typedef uint32_t judge_function(const uint32_t *card, size_t card_len);
 
@@ -54,6 +59,20 @@ static bool both_give(const char *what, const uint32_t *card, size_t card_len, u
     return false;
 }
 
+/* Times both judges on a card and shows what they take for each live word. */
+static void show(const char *what, const uint32_t *card, size_t card_len, double live_words) {
+    double library = 1e9;
+    double plain = 1e9;
+    for (int i = 0; i < CALLS; i++) {
+        double one = timed(gi_judge, card, card_len);
+        double other = timed(judge_c, card, card_len);
+        library = one < library ? one : library;
+        plain = other < plain ? other : plain;
+    }
+    double ns = 1e9 / live_words;
+    printf("%-14s %9.4f %9.4f %9.2f\n", what, library * ns, plain * ns, library / plain);
+}
+
 static bool compare(const char *what, uint32_t *card, size_t card_len, uint32_t positions) {
     fill(card, positions);
     if (!both_give(what, card, card_len, GI_DONE))
@@ -69,24 +88,38 @@ static bool compare(const char *what, uint32_t *card, size_t card_len, uint32_t 
         return false;
     *word = kept;
 
-    double library = 1e9;
-    double plain = 1e9;
-    for (int i = 0; i < CALLS; i++) {
-        double one = timed(gi_judge, card, card_len);
-        double other = timed(judge_c, card, card_len);
-        library = one < library ? one : library;
-        plain = other < plain ? other : plain;
-    }
-    double ns = 1e9 / LIVE_WORDS;
-    printf("%-14s %9.4f %9.4f %9.2f\n", what, library * ns, plain * ns, library / plain);
+    show(what, card, card_len, LIVE_PLACES * BLOCK_WORDS);
     return true;
+}
+
+/* A card of the smallest blocks, each with one pair. */
+static bool compare_small(void) {
+    uint32_t *card = words_for(SMALL_CARD_WORDS);
+    if (gi_format(card, SMALL_CARD_WORDS, SMALL_BLOCK_WORDS, PLACES) != GI_DONE)
+        give_up("a card was not formatted");
+    card[GI_CONFIG_OLD_START] = OLD_START;
+    card[GI_CONFIG_OLD_LENGTH] = LIVE_PLACES;
+    for (uint32_t k = 0; k < LIVE_PLACES; k++) {
+        uint32_t place = (OLD_START + k) % PLACES;
+        uint32_t *entry = card + GI_CONFIG_WORDS + place * GI_MAP_ENTRY_WORDS;
+        uint32_t *block = card + GI_CONFIG_WORDS + PLACES * GI_MAP_ENTRY_WORDS + place * SMALL_BLOCK_WORDS;
+        block[0] = entry[0] = k + 1;
+        block[1] = 1;
+        block[2] = entry[1] = 7;
+    }
+    bool ok = both_give("small blocks", card, SMALL_CARD_WORDS, GI_DONE);
+    if (ok)
+        show("1, B = 8", card, SMALL_CARD_WORDS, LIVE_PLACES * SMALL_BLOCK_WORDS);
+    free(card);
+    return ok;
 }
 
 int main(void) {
     uint32_t *card = words_for(CARD_WORDS);
-    printf("judge, %d live words, ns per live word (best of %d calls)\n", LIVE_WORDS, CALLS);
+    printf("judge, %d live places, ns per live word (best of %d calls)\n", LIVE_PLACES, CALLS);
     printf("%-14s %9s %9s %9s\n", "entries", "library", "plain C", "ratio");
-    bool ok = compare("1,022 long", card, CARD_WORDS, BLOCK_WORDS - 2) && compare("3 long", card, CARD_WORDS, 3);
+    bool ok = compare("1,022 long", card, CARD_WORDS, BLOCK_WORDS - 2) && compare("3 long", card, CARD_WORDS, 3) &&
+              compare_small();
     free(card);
     return ok ? 0 : 1;
 }

@@ -13,7 +13,7 @@ use Rattle.pair.specs.Tests.{firstOf}
 use Rattle.pair.proofs.FirstOf.{passed}
 use Rattle.pair.proofs.Tests.{and-left, and-right}
 use Rattle.card.specs.Layout.{format, widthOf, blockSize, placeCount, oldStart, oldLength, newLength, boundary, entryWidth, cardLength, inLimits, oldPlaces, newPlaces, pairsAt}
-use Rattle.card.specs.Sound.{blocksSound, firstReaches, boundaryWords, segmentsSound, judged}
+use Rattle.card.specs.Sound.{blocksSound, firstReaches, boundaryAgrees, segmentsSound, judged}
 
 pub record Facts (c : List ℕ) : Type 0 where
   pub known : format c ≡ 1
@@ -24,7 +24,7 @@ pub record Facts (c : List ℕ) : Type 0 where
   pub long : length c ≡ cardLength (entryWidth c) (blockSize c) (placeCount c)
   pub start : oldStart c < placeCount c
   pub room : oldLength c + newLength c < placeCount c
-  pub boundWords : boundaryWords c ≡ true
+  pub boundWords : boundaryAgrees c ≡ true
   pub newSound : blocksSound c (newPlaces c) ≡ true
   pub oldSound : blocksSound c (oldPlaces c) ≡ true
   pub newRising : risingFrom 0 (pairsAt c (newPlaces c)) ≡ true
@@ -50,7 +50,7 @@ facts c e =
   where
     gather : (c : List ℕ) → eqb (format c) 1 ≡ true → inLimits (blockSize c) (placeCount c) ≡ true
         → eqb (length c) (cardLength (entryWidth c) (blockSize c) (placeCount c)) ≡ true → ltb (oldStart c) (placeCount c) ≡ true
-        → ltb (placeCount c - 1) (oldLength c + newLength c) ≡ false → boundaryWords c ≡ true → segmentsSound c ≡ true → Facts c
+        → ltb (placeCount c - 1) (oldLength c + newLength c) ≡ false → boundaryAgrees c ≡ true → segmentsSound c ≡ true → Facts c
     gather c a l e s r w g =
         let low : 2 ≤ placeCount c = search tests in
         record {

@@ -1,42 +1,34 @@
 -- A card just formatted is sound, has no live pair and no boundary.
-use Prim.Native.Nat.{ℕ, _+_, _≤_, _<_}
+use Prim.Native.Nat.{ℕ, _+_, _<_}
 use mathlib.Core.Path.{_≡_, _∙_, ap}
-use mathlib.Core.Bool.{true, false}
+use mathlib.Core.Bool.{false}
 use mathlib.Core.List.{List, []}
 use native.Mathlib.Omega.{arith}
 use lib.ListN.{length, drop, getD}
 use lib.Seq.{sets, length-sets}
 use lib.Dec.{eqb}
-use borrow.Author.Tests.{leb-true, eqb-true, not-false}
+use borrow.Author.Tests.{eqb-true, not-false}
 use Rattle.pair.specs.Rank.{Words}
 use Rattle.pair.specs.Rising.{above, keep, risingFrom, last}
 use Rattle.pair.proofs.FirstOf.{passed}
-use Rattle.pair.proofs.Tests.{and-left, and-right}
-use Rattle.card.specs.Layout.{word, format, boundary, widthOf, cardLength, inLimits, around, oldPlaces, newPlaces, pairsAt, live, formatNumber, formatted, configurationList}
-use Rattle.card.specs.Sound.{blocksSound, firstReaches, boundaryWords, judged}
+use Rattle.card.specs.Layout.{word, format, boundary, widthOf, cardLength, around, oldPlaces, newPlaces, pairsAt, live, formatNumber, formatted, configurationList}
+use Rattle.card.specs.Sound.{blocksSound, firstReaches, boundaryAgrees, judged}
 use Rattle.card.proofs.Facts.{sound}
+use Rattle.card.proofs.Limits.{Limits, limits}
 use Rattle.card.proofs.Parts.{part-sets-after, word-sets-same}
 use Rattle.pair.proofs.Words.{words-sets, words-cons, words-nil}
 
 -- what the formatter asks for
 pub record Formattable (c : List ℕ) (b n : ℕ) : Type 0 where
-  pub sizeLow : 8 ≤ b
-  pub sizeHigh : b ≤ 1024
-  pub countLow : 2 ≤ n
-  pub countHigh : n ≤ 1024
+  pub range : Limits b n
   pub long : length c ≡ cardLength (widthOf 1) b n
-
-ruleset tests = (and-left, and-right, not-false, leb-true, eqb-true)
 
 pub formattable : (c : List ℕ) (b n : ℕ) → formatNumber c b n ≡ 0 → Formattable c b n
 unfolding formatNumber
 formattable c b n e =
     let p1 = passed _ _ _ e in
     let p2 = passed _ _ _ (p1 .1) in
-    gather (not-false _ (p1 .0)) (not-false _ (p2 .0))
-  where
-    gather : inLimits b n ≡ true → eqb (length c) (cardLength (widthOf 1) b n) ≡ true → Formattable c b n
-    gather l e = record { sizeLow = search tests; sizeHigh = search tests; countLow = search tests; countHigh = search tests; long = eqb-true _ _ e }
+    record { range = limits b n (not-false _ (p1 .0)); long = eqb-true _ _ (not-false _ (p2 .0)) }
 
 -- A refused call of the formatter writes nothing.
 pub formatted-refused : (c : List ℕ) (b n : ℕ) → eqb (formatNumber c b n) 0 ≡ false → formatted c b n ≡ c
@@ -94,18 +86,18 @@ module _ (c : List ℕ) (b n : ℕ) (e : formatNumber c b n ≡ 0) where
 
   -- It is sound.
   pub formatted-sound : judged (formatted c b n) ≡ 0
-  unfolding boundaryWords blocksSound firstReaches pairsAt risingFrom last
+  unfolding boundaryAgrees blocksSound firstReaches pairsAt risingFrom last
   formatted-sound =
       let l : length (formatted c b n) ≡ length c = ap length formatted-is ∙ length-sets c 0 (fresh b n) in
       sound (formatted c b n) (record {
         known = known;
-        sizeLow = rw size (f .sizeLow);
-        sizeHigh = rw size (f .sizeHigh);
-        countLow = rw count (f .countLow);
-        countHigh = rw count (f .countHigh);
+        sizeLow = rw size (f .range .sizeLow);
+        sizeHigh = rw size (f .range .sizeHigh);
+        countLow = rw count (f .range .countLow);
+        countHigh = rw count (f .range .countHigh);
         long = rw (known, size, count) (l ∙ f .long);
-        start = rw (count, formatted-word 3 (omega arith)) (omega (arith, f .countLow));
-        room = rw (count, formatted-old, formatted-new) (omega (arith, f .countLow));
+        start = rw (count, formatted-word 3 (omega arith)) (omega (arith, f .range .countLow));
+        room = rw (count, formatted-old, formatted-new) (omega (arith, f .range .countLow));
         boundWords = rw (formatted-new, formatted-term, formatted-position);
         newSound = rw newNone;
         oldSound = rw oldNone;

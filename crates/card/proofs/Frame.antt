@@ -7,7 +7,7 @@ use lib.ListN.{length, take}
 use lib.Seq.{getD-take}
 use Rattle.pair.specs.Rising.{Each}
 use Rattle.card.specs.Layout.{word, boundary, entry, firstPair, place, oldPlaces, newPlaces, pairsAt, live}
-use Rattle.card.specs.Sound.{blocksSound, firstReaches, boundaryWords, segmentsSound, judged}
+use Rattle.card.specs.Sound.{blocksSound, firstReaches, boundaryAgrees, segmentsSound, judged}
 use Rattle.card.proofs.Parts.{firstPair-entry}
 
 -- the place and its map entry hold the same words on both cards
@@ -104,5 +104,5 @@ module _ (c d : List ℕ) (a : Alike c d) where
 
   -- The judge's number is the same.
   pub judged-alike : judged d ≡ judged c
-  unfolding judged boundaryWords
+  unfolding judged boundaryAgrees
   judged-alike = rw (segments-alike, a .long, w0, w1, w2, w3, w4, w5, w6, w7)

@@ -25,7 +25,7 @@ pub demand3 : Demand3
 unfolding Demand3
 demand3 c b n es wc we e =
     let f = formattable c b n e in
-    holds _ _ es (keeping-formatted c b n e wc (omega (arith, f .sizeHigh)) (omega (arith, f .countHigh))) we
+    holds _ _ es (keeping-formatted c b n e wc (omega (arith, f .range .sizeHigh)) (omega (arith, f .range .countHigh))) we
 
 -- The same of any sound card and the history that it tells of itself.
 pub sound-holds : (c : List ℕ) (es : List Event) → Words c → AllOfWords es → judged c ≡ 0 → Holds c (itself c) es

@@ -9,7 +9,7 @@ use Rattle.pair.specs.Rising.{keep, above, risingFrom, last, any, insert}
 use Rattle.pair.specs.Tests.{firstOf}
 use Rattle.block.specs.Block.{zeros, pairsFrom, pairs, formedFrom, formed, fitting, due, goesOn}
 use Rattle.card.specs.Layout.{widthOf, firstPair, place, around, pairsAt, live, boundary, oldPlaces, newPlaces}
-use Rattle.card.specs.Sound.{blocksSound, firstReaches, boundaryWords, segmentsSound, judged}
+use Rattle.card.specs.Sound.{blocksSound, firstReaches, boundaryAgrees, segmentsSound, judged}
 use Rattle.batch.specs.Batch.{updates, anyUpdate, adds, removes, withdrawn, withAdded, applied, illFormed, falls, batchNumber}
 use Rattle.update.specs.Step.{remains, spent, nextBoundary, freed, grown, crowded, stepNumber}
 use Rattle.lookup.specs.Found.{mappedTo, span, blocksRead, holders, questionNumber}
@@ -37,7 +37,7 @@ pub record MeetsEight (c b : List ℕ) : Type 0 where
 
 -- two free places are needed: with one, a removal can meet number 8
 pub two-places-needed : MeetsEight narrow removesLast
-unfolding keep above risingFrom last any firstOf insert zeros pairsFrom pairs formedFrom formed fitting due goesOn widthOf firstPair place around pairsAt live blocksSound firstReaches boundaryWords segmentsSound judged updates anyUpdate adds removes withdrawn withAdded applied illFormed falls batchNumber remains spent nextBoundary freed grown crowded stepNumber freePlaces
+unfolding keep above risingFrom last any firstOf insert zeros pairsFrom pairs formedFrom formed fitting due goesOn widthOf firstPair place around pairsAt live blocksSound firstReaches boundaryAgrees segmentsSound judged updates anyUpdate adds removes withdrawn withAdded applied illFormed falls batchNumber remains spent nextBoundary freed grown crowded stepNumber freePlaces
 two-places-needed = record { sound = refl; inOrder = refl; removals = refl; oneFree = refl; number = refl }
 
 -- a sound card in mid-pass: the old block has (1,1) and (1,2), the new one (1,1)
@@ -56,5 +56,5 @@ pub record ReadsTwo (c : List ℕ) (t a z : ℕ) : Type 0 where
 
 -- for a term that is not there two blocks are read and none holds a posting
 pub two-more-read : ReadsTwo midPass 9 1 9
-unfolding keep above risingFrom last any firstOf zeros pairsFrom pairs formedFrom formed widthOf firstPair place around pairsAt live blocksSound firstReaches boundaryWords segmentsSound judged questionNumber blocksRead span mappedTo holders
+unfolding keep above risingFrom last any firstOf zeros pairsFrom pairs formedFrom formed widthOf firstPair place around pairsAt live blocksSound firstReaches boundaryAgrees segmentsSound judged questionNumber blocksRead span mappedTo holders
 two-more-read = record { inOrder = refl; read = refl; held = refl }

@@ -14,7 +14,7 @@ use Rattle.pair.specs.Rising.{Each, above, risingFrom, last}
 use Rattle.pair.proofs.Each.{Each-all}
 use Rattle.pair.proofs.Order.{rank-term-position, position-word}
 use Rattle.card.specs.Layout.{word, format, blockSize, placeCount, oldStart, oldLength, newLength, boundaryTerm, boundaryPosition, boundary, entryWidth, entryAt, placeAt, place, around, oldPlaces, newPlaces, pairsAt, live}
-use Rattle.card.specs.Sound.{blocksSound, firstReaches, boundaryWords, judged}
+use Rattle.card.specs.Sound.{blocksSound, firstReaches, boundaryAgrees, judged}
 use Rattle.pair.proofs.Words.{words-sets, words-cons, words-nil}
 use Rattle.card.proofs.Circle.{around-mod, around-mod-add}
 use Rattle.card.proofs.Facts.{Facts, sound}
@@ -121,7 +121,7 @@ module _ (c : List ℕ) (s o n k : ℕ) (f : Facts c) where
 
   -- A write that fits leaves a sound card.
   pub segments-sound : Fit c s o n k → judged d ≡ 0
-  unfolding boundaryWords around pairsAt last
+  unfolding boundaryAgrees around pairsAt last
   segments-sound g =
       let N = placeCount c in
       sound d (record {

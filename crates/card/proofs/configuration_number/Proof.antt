@@ -11,7 +11,7 @@ use lib.ListN.{length}
 use Rattle.pair.specs.Tests.{firstOf}
 use Rattle.card.proofs.Limits.{limits}
 use Rattle.card.specs.Layout.{word, blockSize, placeCount, oldStart, oldLength, newLength, entryWidth, cardLength, inLimits}
-use Rattle.card.specs.Sound.{boundaryWords, configurationConditions}
+use Rattle.card.specs.Sound.{boundaryAgrees, configurationConditions}
 use borrow.Author.Needs.{needs}
 use Rattle.card.proofs.configuration_number.Statement.{statement}
 use Rattle.card.proofs.configuration_number.Tie as tie
@@ -36,13 +36,13 @@ q4 c = eq-eqb _ _ (c .if4 .left ∙ c .before .card-length .ensures)
 six :
     (c : List ℕ) → ltb (length c) 8 ≡ false → eqb (word c 0) 1 ≡ true → inLimits (blockSize c) (placeCount c) ≡ true →
     eqb (length c) (cardLength (entryWidth c) (blockSize c) (placeCount c)) ≡ true → ltb (oldStart c) (placeCount c) ≡ true →
-    ltb (placeCount c - 1) (oldLength c + newLength c) ≡ false → (b : Bool) → b ≡ boundaryWords c → cond b 0 3 ≡ firstOf (configurationConditions c)
+    ltb (placeCount c - 1) (oldLength c + newLength c) ≡ false → (b : Bool) → b ≡ boundaryAgrees c → cond b 0 3 ≡ firstOf (configurationConditions c)
 unfolding firstOf
 six c a b d e f g true h = simp (a, b, d, e, f, g, ← h)
 six c a b d e f g false h = simp (a, b, d, e, f, g, ← h)
 
 passed-six : (c : tie.After-boundary-agrees) → cond (c .boundary-agrees .result) 0 3 ≡ firstOf (configurationConditions (W (c .before .before .before .before .before .before .before .before .before .before .before .before .before .before .before .before .before .before .before)))
-unfolding boundaryWords
+unfolding boundaryAgrees
 passed-six c =
     let e6 = c .before .before .before .before in
     let e5 = e6 .before .before .before in
