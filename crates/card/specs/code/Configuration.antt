@@ -14,6 +14,7 @@ use Rattle.card.specs.Layout.{configurationWords, configurationList, for
 abbrev pub short : ℕ → ℕ
 short w = w % 65536
 
+-- the configuration by value, of any words
 pub record ConfigurationOf (c : List ℕ) (k : Configuration) : Type 0 where
   pub ofFormat : k .format ≡ format c
   pub ofSize : k .size ≡ short (blockSize c)
