@@ -1,11 +1,7 @@
 pub mod Due
-pub mod Entries
 pub mod Filling
-pub mod Holding
 pub mod Packing
 pub mod Reading
 pub mod Scanning
-pub mod Seeking
 pub mod Size
 pub mod Walk
-pub mod Wanting

@@ -7,8 +7,6 @@ ghost use Rattle.block.specs.Block.{zeros};
 ghost use Rattle.block.specs.code.Scan.{entryStands, scanned};
 use pair::Pair;
 
-pub mod pack; // a block in hand, filled pair by pair
-pub mod wanted; // the wanted positions of a term in a block
 
 // What a scan tells of a block: whether it is a live block, and the ranks of its first and its last pair, 0 where it is not.
 pub struct BlockScan {

@@ -11,7 +11,7 @@ use Rattle.pair.specs.Rank.{wordLimit, rank, position, Words}
 use Rattle.pair.specs.Rising.{keep, above, within}
 use Rattle.pair.proofs.Keep.{keep-append, keep-same, keep-keep, length-keep}
 use Rattle.block.specs.Block.{blockSizeMost, pairs, wordsBefore}
-use Rattle.block.specs.code.Wanted.{isWanted}
+use Rattle.wanted.specs.code.Wanted.{isWanted}
 use Rattle.block.proofs.Size.{block-size, length-size}
 use Rattle.card.specs.Layout.{blockSize, placeCount, oldStart, oldLength, newLength, boundary, placeAt, place, around, oldPlaces, newPlaces, pairsAt, live}
 use Rattle.card.specs.code.Configuration.{ConfigurationOf, placeOn, Ordered}

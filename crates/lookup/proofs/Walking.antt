@@ -12,9 +12,9 @@ use Rattle.pair.specs.Rank.{position}
 use Rattle.pair.specs.Rising.{Each, keep}
 use Rattle.pair.proofs.Keep.{keep-append}
 use Rattle.block.specs.Block.{pairs, formed}
-use Rattle.block.specs.code.Wanted.{isWanted, BlockPart}
-use Rattle.block.specs.declared.wanted.Part.{Part}
-use Rattle.block.proofs.Seeking.{take-part}
+use Rattle.wanted.specs.code.Wanted.{isWanted, BlockPart}
+use Rattle.wanted.specs.declared.Part.{Part}
+use Rattle.wanted.proofs.Seeking.{take-part}
 use Rattle.card.proofs.Parts.{length-part}
 use Rattle.card.specs.Layout.{blockSize, placeCount, placeAt, place, around, pairsAt}
 use Rattle.card.specs.code.Configuration.{ConfigurationOf, placeOn}

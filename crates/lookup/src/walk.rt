@@ -2,7 +2,7 @@
 ghost use Rattle.lookup.specs.code.Walk.{PlacePart, Sought, WalkStarted, Next};
 use crate::map::opened;
 use crate::question_number;
-use block::wanted::Part;
+use wanted::Part;
 use card::layout;
 use card::layout::Configuration;
 
@@ -71,7 +71,7 @@ pub fn start_walk(card: &[u32], term: u32, from: u32, to: u32) -> WalkStart
 fn place_part(card: &[u32], place: u16, term: u32, after: u32, to: u32) -> Part
     ensures { λ r. ⌜ PlacePart (now (card .entry)) place term after to r ⌝ }
 {
-    let found = block::wanted::block_part(layout::place(card, place), term, after, to);
+    let found = wanted::block_part(layout::place(card, place), term, after, to);
     let before = found.start;
     let len = found.len;
     if len == 0 {

@@ -11,11 +11,11 @@ use Rattle.pair.specs.Rank.{term, Proper}
 use Rattle.pair.specs.Rising.{last}
 use Rattle.pair.proofs.Each.{Each-second}
 use Rattle.block.specs.Block.{cost}
-use Rattle.block.specs.code.Packing.{hasRoom, putWords, put}
-use Rattle.block.specs.declared.pack.Packing.{Packing}
+use Rattle.pack.specs.code.Packing.{hasRoom, putWords, put}
+use Rattle.pack.specs.declared.Packing.{Packing}
 use Rattle.block.proofs.Size.{size, length-size}
 use Rattle.block.proofs.Filling.{Filled, filled-end, filled-full}
-use Rattle.block.proofs.Holding.{Holds, holds-start, holds-room, holds-put, holds-block, length-put, cost-high}
+use Rattle.pack.proofs.Holding.{Holds, holds-start, holds-room, holds-put, holds-block, length-put, cost-high}
 use Rattle.card.specs.Layout.{blockSize, boundary}
 use Rattle.card.proofs.Facts.{Facts}
 use Rattle.update.specs.declared.merge.Merge.{Merge}

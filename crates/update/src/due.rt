@@ -6,7 +6,6 @@ ghost use Rattle.card.specs.Sound.{judged};
 ghost use Rattle.batch.specs.Batch.{batchNumber};
 ghost use Rattle.update.specs.code.Due.{DueOf};
 use crate::merge;
-use block::pack;
 
 // The due block: how many of its words are used, the rank of its last pair, 0 for none, and whether pairs stand beyond it.
 pub(crate) struct Due {

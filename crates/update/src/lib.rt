@@ -12,7 +12,7 @@ ghost use Rattle.update.specs.Span.{writeSpan};
 ghost use Rattle.update.specs.Step.{step};
 ghost use Rattle.update.specs.Answer.{numberOf, writeOf, freedOf, finishedOf, answerOf};
 ghost use Rattle.update.specs.code.Plan.{Freed, followed, settling, Planned};
-use block::pack::WORDS_MOST;
+use pack::WORDS_MOST;
 use card::layout;
 use card::layout::CONFIGURATION_WORDS;
 use card::layout::Configuration;

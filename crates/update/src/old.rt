@@ -4,7 +4,7 @@ ghost use Rattle.card.specs.Layout.{oldPlaces};
 ghost use Rattle.card.specs.Sound.{judged};
 ghost use Rattle.update.specs.code.Old.{BlockEntry, entryRead, Stands, Advanced, Skipped, beforeFirst};
 ghost use Rattle.update.specs.Step.{spent};
-use block::wanted::reads_on;
+use wanted::reads_on;
 use card::layout;
 use card::layout::Configuration;
 use pair::Pair;

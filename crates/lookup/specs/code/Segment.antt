@@ -7,7 +7,7 @@ use lib.Dec.{ltb, leb}
 use lib.ListN.{length}
 use Rattle.pair.specs.Rank.{wordLimit, rank}
 use Rattle.pair.specs.Rising.{risingFrom}
-use Rattle.block.specs.code.Wanted.{isWanted}
+use Rattle.wanted.specs.code.Wanted.{isWanted}
 use Rattle.card.specs.Layout.{placeCount, around, pairsAt}
 use Rattle.card.specs.Sound.{blocksSound}
 use Rattle.card.specs.code.Configuration.{Ordered}

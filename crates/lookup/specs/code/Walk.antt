@@ -8,8 +8,8 @@ use lib.Dec.{eqb}
 use Rattle.pair.specs.Rank.{position}
 use Rattle.pair.specs.Rising.{Each, keep}
 use Rattle.block.specs.Block.{pairs, wordsBefore, formed}
-use Rattle.block.specs.code.Wanted.{isWanted}
-use Rattle.block.specs.declared.wanted.Part.{Part}
+use Rattle.wanted.specs.code.Wanted.{isWanted}
+use Rattle.wanted.specs.declared.Part.{Part}
 use Rattle.card.specs.Layout.{placeCount, placeAt, place, around, pairsAt}
 use Rattle.card.specs.code.Configuration.{Shaped}
 use Rattle.lookup.specs.declared.walk.Stretch.{Stretch}

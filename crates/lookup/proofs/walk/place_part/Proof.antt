@@ -1,6 +1,6 @@
 -- `lookup::walk::place_part` meets its contract: the part of a block is a part of the card.
 use native.Mathlib.Omega.{arith}
-use Rattle.block.specs.code.Wanted.{BlockPart}
+use Rattle.wanted.specs.code.Wanted.{BlockPart}
 use Rattle.card.specs.Layout.{place}
 use Rattle.lookup.proofs.Walking.{place-none, part-inside, place-some}
 use borrow.Author.Needs.{needs}

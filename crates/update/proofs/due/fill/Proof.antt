@@ -6,9 +6,9 @@ use denote.Ref.{now}
 use lib.ListN.{length, length-replicate}
 use borrow.Author.Tests.{not-true, not-false}
 use Rattle.pair.specs.Rank.{Words}
-use Rattle.block.specs.code.Packing.{hasRoom}
-use Rattle.block.specs.declared.pack.PutAnswer.{PutAnswer}
-use Rattle.block.proofs.Holding.{put-done, put-none, length-put}
+use Rattle.pack.specs.code.Packing.{hasRoom}
+use Rattle.pack.specs.declared.PutAnswer.{PutAnswer}
+use Rattle.pack.proofs.Holding.{put-done, put-none, length-put}
 use Rattle.card.specs.Layout.{blockSize}
 use Rattle.card.proofs.Facts.{facts}
 use Rattle.update.specs.code.Merge.{Merges, left}
