@@ -80,17 +80,6 @@ static void of_a_lower_term(uint32_t i, uint32_t *record) {
     put(record, GI_RECORD_REMOVE, i < GI_BATCH_RECORDS_MAX / 2 ? 1 : TERM, i + 1, GI_HIGHEST);
 }
 
-static int by_size(const void *one, const void *other) {
-    const double a = *(const double *)one;
-    const double b = *(const double *)other;
-    return (a > b) - (a < b);
-}
-
-static double median(double *times) {
-    qsort(times, CALLS, sizeof *times, by_size);
-    return times[CALLS / 2];
-}
-
 static void time_batch(const char *name, uint32_t *card, const uint32_t *batch) {
     static double in_step[CALLS];
     static double in_judge[CALLS];
@@ -106,8 +95,8 @@ static void time_batch(const char *name, uint32_t *card, const uint32_t *batch) 
         in_step[i] = seconds() - began;
         put_back(card, &words);
     }
-    double step = median(in_step);
-    double judge = median(in_judge);
+    double step = median(in_step, CALLS);
+    double judge = median(in_judge, CALLS);
     printf("%-44s %9.4f %9.4f %9.2f\n", name, step * 1e3, judge * 1e3, step / judge);
 }
 

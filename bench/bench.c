@@ -28,6 +28,17 @@ double seconds(void) {
     return (double)now.tv_sec + 1e-9 * (double)now.tv_nsec;
 }
 
+static int by_size(const void *one, const void *other) {
+    const double a = *(const double *)one;
+    const double b = *(const double *)other;
+    return (a > b) - (a < b);
+}
+
+double median(double *times, size_t count) {
+    qsort(times, count, sizeof *times, by_size);
+    return times[count / 2];
+}
+
 double timed_judge(const uint32_t *card) {
     double began = seconds();
     if (gi_judge(card, CARD_WORDS) != GI_DONE)

@@ -25,6 +25,9 @@ uint32_t *words_for(size_t count);
 
 double seconds(void);
 
+/* The median of some times, which it sorts. */
+double median(double *times, size_t count);
+
 /* Seconds of one call of the judge on a sound card. */
 double timed_judge(const uint32_t *card);
 

@@ -1,8 +1,8 @@
 /* Times the library's judge against the plain C judge, on the largest card:
  * B = N = 1,024 with 1,023 live places, once of long entries and once of short
  * ones; and on one of the smallest blocks, where each block costs more than its
- * words. The two judges take turns on the same card, call by call, and the best
- * call of each counts. */
+ * words. The two judges take turns on the same card, call by call, and the median
+ * of each counts. */
 #include <inttypes.h>
 #include <stdbool.h>
 #include <stdio.h>
@@ -61,14 +61,14 @@ static bool both_give(const char *what, const uint32_t *card, size_t card_len, u
 
 /* Times both judges on a card and shows what they take for each live word. */
 static void show(const char *what, const uint32_t *card, size_t card_len, double live_words) {
-    double library = 1e9;
-    double plain = 1e9;
+    static double in_library[CALLS];
+    static double in_plain[CALLS];
     for (int i = 0; i < CALLS; i++) {
-        double one = timed(gi_judge, card, card_len);
-        double other = timed(judge_c, card, card_len);
-        library = one < library ? one : library;
-        plain = other < plain ? other : plain;
+        in_library[i] = timed(gi_judge, card, card_len);
+        in_plain[i] = timed(judge_c, card, card_len);
     }
+    double library = median(in_library, CALLS);
+    double plain = median(in_plain, CALLS);
     double ns = 1e9 / live_words;
     printf("%-14s %9.4f %9.4f %9.2f\n", what, library * ns, plain * ns, library / plain);
 }
@@ -116,7 +116,7 @@ static bool compare_small(void) {
 
 int main(void) {
     uint32_t *card = words_for(CARD_WORDS);
-    printf("judge, %d live places, ns per live word (best of %d calls)\n", LIVE_PLACES, CALLS);
+    printf("judge, %d live places, ns per live word (median of %d calls)\n", LIVE_PLACES, CALLS);
     printf("%-14s %9s %9s %9s\n", "entries", "library", "plain C", "ratio");
     bool ok = compare("1,022 long", card, CARD_WORDS, BLOCK_WORDS - 2) && compare("3 long", card, CARD_WORDS, 3) &&
               compare_small();

@@ -2,7 +2,7 @@
  * judge alone on the same card, since every lookup judges first; and what a lookup
  * and a posting reader take beyond the judge, for each position of the answer,
  * against a plain C loop that moves the same words. The calls take turns, and the
- * best call of each counts. */
+ * median of each counts. */
 #include <inttypes.h>
 #include <stdio.h>
 #include <stdlib.h>
@@ -12,7 +12,7 @@
 
 enum { CALLS = 100 };
 
-/* The best times of a question's calls, and what the lookup answered. */
+/* The median times of a question's calls, and what the lookup answered. */
 struct times {
     double lookup;
     double read;
@@ -82,42 +82,45 @@ static uint32_t move_positions(uint32_t *card, struct holders places, uint32_t t
     return found;
 }
 
-/* Keeps the better time. */
-static void better(double *best, double took) {
-    *best = took < *best ? took : *best;
-}
-
 static struct times time_term(uint32_t *card, uint32_t term, uint32_t *answer, uint32_t *read_answer,
                               uint32_t *plain_answer) {
-    struct times best = {1e9, 1e9, 1e9, 1e9, 0, 0};
+    static double in_judge[CALLS];
+    static double in_lookup[CALLS];
+    static double in_read[CALLS];
+    static double in_plain[CALLS];
+    struct times times;
     struct holders places = holders_of(card, term);
     for (int i = 0; i < CALLS; i++) {
         size_t read;
-        better(&best.judge, timed_judge(card));
-        better(&best.lookup, timed_lookup(card, term, answer, &best));
-        better(&best.read, timed_read(card, term, read_answer, &read));
+        in_judge[i] = timed_judge(card);
+        in_lookup[i] = timed_lookup(card, term, answer, &times);
+        in_read[i] = timed_read(card, term, read_answer, &read);
         double began = seconds();
         uint32_t moved = move_positions(card, places, term, plain_answer);
-        better(&best.plain, seconds() - began);
-        if (moved != best.found || memcmp(answer, plain_answer, moved * sizeof *answer) != 0)
+        in_plain[i] = seconds() - began;
+        if (moved != times.found || memcmp(answer, plain_answer, moved * sizeof *answer) != 0)
             give_up("lookup and plain C differ");
         if (moved != read || memcmp(read_answer, plain_answer, moved * sizeof *answer) != 0)
             give_up("reader and plain C differ");
     }
-    return best;
+    times.judge = median(in_judge, CALLS);
+    times.lookup = median(in_lookup, CALLS);
+    times.read = median(in_read, CALLS);
+    times.plain = median(in_plain, CALLS);
+    return times;
 }
 
 /* Shows a question's times; a position's only where there are enough to time. */
-static void show(const char *what, struct times best) {
+static void show(const char *what, struct times times) {
     enum { ENOUGH = 10000 };
-    printf("%-22s %9" PRIu32 " %7" PRIu32 " %9.4f %9.4f %7.2f", what, best.found, best.blocks, best.lookup * 1e3,
-           best.judge * 1e3, best.lookup / best.judge);
-    if (best.found >= ENOUGH) {
-        double lookup = best.lookup - best.judge;
-        double read = best.read - best.judge;
-        double ns = 1e9 / best.found;
-        printf(" %9.3f %9.3f %9.3f %8.2f %8.2f", lookup * ns, read * ns, best.plain * ns, lookup / best.plain,
-               read / best.plain);
+    printf("%-22s %9" PRIu32 " %7" PRIu32 " %9.4f %9.4f %7.2f", what, times.found, times.blocks, times.lookup * 1e3,
+           times.judge * 1e3, times.lookup / times.judge);
+    if (times.found >= ENOUGH) {
+        double lookup = times.lookup - times.judge;
+        double read = times.read - times.judge;
+        double ns = 1e9 / times.found;
+        printf(" %9.3f %9.3f %9.3f %8.2f %8.2f", lookup * ns, read * ns, times.plain * ns, lookup / times.plain,
+               read / times.plain);
     }
     putchar('\n');
 }
@@ -151,7 +154,7 @@ int main(void) {
                  {"the 1,000th", 1000},
                  {"a rare one", last - 2},
                  {"one that is not there", GI_HIGHEST}};
-    printf("lookup, 1,023 places live, ms a call (best of %d); ns a position beyond the judge\n", CALLS);
+    printf("lookup, 1,023 places live, ms a call (median of %d); ns a position beyond the judge\n", CALLS);
     printf("%-22s %9s %7s %9s %9s %7s %9s %9s %9s %8s %8s\n", "term", "positions", "blocks", "lookup", "judge", "ratio",
            "lookup ns", "reader ns", "plain C", "lookup/C", "reader/C");
     for (size_t i = 0; i < sizeof terms / sizeof *terms; i++)

@@ -1,6 +1,6 @@
 /* Times steps of a pass on the largest card, half full and full, with a batch of
  * 4,096 records, against the judge alone on the same card: every step judges
- * first. The two take turns, call by call, and the best call of each counts.
+ * first. The two take turns, call by call, and the median of each counts.
  * Then times a whole pass in memory. */
 #include <inttypes.h>
 #include <stdbool.h>
@@ -37,19 +37,18 @@ static struct answer step(uint32_t *card, const uint32_t *batch) {
 static void time_step(const char *where, uint32_t *card, const uint32_t *batch) {
     struct before words = kept(card);
     struct answer answer = {0, false};
-    double best_step = 1e9;
-    double best_judge = 1e9;
+    static double in_step[CALLS];
+    static double in_judge[CALLS];
     for (int i = 0; i < CALLS; i++) {
-        double judge = timed_judge(card);
+        in_judge[i] = timed_judge(card);
         double began = seconds();
         answer = step(card, batch);
-        double took = seconds() - began;
+        in_step[i] = seconds() - began;
         put_back(card, &words);
-        best_judge = judge < best_judge ? judge : best_judge;
-        best_step = took < best_step ? took : best_step;
     }
-    printf("%-32s %-14s %9.4f %9.4f %9.2f\n", where, writes[answer.write], best_step * 1e3, best_judge * 1e3,
-           best_step / best_judge);
+    double took = median(in_step, CALLS);
+    double judge = median(in_judge, CALLS);
+    printf("%-32s %-14s %9.4f %9.4f %9.2f\n", where, writes[answer.write], took * 1e3, judge * 1e3, took / judge);
 }
 
 /* Makes steps until a number of configuration writes is done. */
@@ -97,7 +96,7 @@ static void time_pass(const char *name, uint32_t *card, uint32_t *batch, uint32_
 int main(void) {
     uint32_t *card = words_for(CARD_WORDS);
     uint32_t *batch = words_for(BATCH_WORDS);
-    printf("step, 4,096 records, ms a call (best of %d)\n", CALLS);
+    printf("step, 4,096 records, ms a call (median of %d)\n", CALLS);
     printf("%-32s %-14s %9s %9s %9s\n", "card", "write", "step", "judge", "ratio");
     time_card("512 places live", card, batch, PLACES / 2);
     time_card("1,023 places live", card, batch, LIVE_PLACES);

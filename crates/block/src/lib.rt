@@ -7,7 +7,6 @@ ghost use Rattle.block.specs.Block.{zeros};
 ghost use Rattle.block.specs.code.Scan.{entryStands, scanned};
 use pair::Pair;
 
-
 // What a scan tells of a block: whether it is a live block, and the ranks of its first and its last pair, 0 where it is not.
 pub struct BlockScan {
     pub formed: bool,

@@ -3,8 +3,6 @@ pub mod Facts
 pub mod Formatted
 pub mod Frame
 pub mod Free
-pub mod Judged
-pub mod Judging
 pub mod Limits
 pub mod Live
 pub mod Ordered

@@ -1,3 +1,2 @@
 -- What only the code's contracts and proofs speak of.
 pub mod Configuration
-pub mod Scan

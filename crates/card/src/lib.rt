@@ -1,16 +1,12 @@
-// The card: 8 configuration words, the map, the places. The formatter and the judge.
+// The card: 8 configuration words, the map, the places. The formatter, and the number of a configuration.
 ghost use mathlib.Core.Path.{_≡_};
 ghost use mathlib.Core.Bool.{cond, _&&_};
 ghost use Prim.Native.Nat.{_≤_, _<_};
 ghost use lib.Dec.{ltb, eqb};
 ghost use Rattle.pair.specs.Tests.{firstOf};
 ghost use Rattle.block.specs.Block.{blockSizeMost};
-ghost use Rattle.card.specs.Layout.{placeCountMost, widthOf, placeCount, oldPlaces, cardLength, inLimits, around, formatNumber, formatted};
-ghost use Rattle.card.specs.Sound.{firstReaches, configurationConditions, judged};
-ghost use Rattle.card.specs.code.Configuration.{Ordered};
-ghost use Rattle.card.specs.code.Scan.{blockScanned, segmentSound, segmentScanned};
-use block::BlockScan;
-use block::UNFORMED;
+ghost use Rattle.card.specs.Layout.{placeCountMost, widthOf, cardLength, inLimits, formatNumber, formatted};
+ghost use Rattle.card.specs.Sound.{configurationConditions};
 use layout::BOUNDARY_POSITION_AT;
 use layout::BOUNDARY_TERM_AT;
 use layout::CONFIGURATION_WORDS;
@@ -32,8 +28,6 @@ const WRONG_LENGTH: u32 = 1;
 const UNKNOWN_FORMAT: u32 = 2;
 
 const BAD_CONFIGURATION: u32 = 3;
-
-const BAD_BLOCKS: u32 = 4;
 
 const OUTSIDE_LIMITS: u32 = 5;
 
@@ -98,7 +92,7 @@ fn boundary_agrees(new_length: u32, term: u32, position: u32) -> bool
 }
 
 // The judge's number for the length and the configuration words, 0 where they are in order.
-fn configuration_number(card: &[u32]) -> u32
+pub fn configuration_number(card: &[u32]) -> u32
     ensures { λ r. ⌜ r ≡ firstOf (configurationConditions (now (card .entry))) ⌝ }
 {
     if card.len() < CONFIGURATION_WORDS {
@@ -130,85 +124,6 @@ fn configuration_number(card: &[u32]) -> u32
         card[BOUNDARY_POSITION_AT],
     ) {
         return BAD_CONFIGURATION;
-    }
-    0
-}
-
-// What the walk over the live blocks of a segment tells: whether they are sound and rise, and the rank of the last pair, 0 where they do not.
-pub struct SegmentScan {
-    pub sound: bool,
-    pub last: u64,
-}
-
-const UNSOUND: SegmentScan = SegmentScan {
-    sound: false,
-    last: 0,
-};
-
-// Scans the block at a place and compares its first pair with the map.
-fn scan_place(card: &[u32], i: u16) -> BlockScan
-    ensures { λ r. ⌜ r ≡ blockScanned (now (card .entry)) i ⌝ }
-{
-    let block = block::scan(layout::place(card, i));
-    let mapped = layout::first_pair(card, i);
-    if block.formed & (mapped == block.first) {
-        return block;
-    }
-    UNFORMED
-}
-
-// Scans len places from start, around the circle, whose pairs are to rise above the rank after.
-fn scan_segment(card: &[u32], k: Configuration, start: u16, len: u16, after: u64) -> SegmentScan
-    requires { ⌜ Ordered (now card) k ⌝ }
-    ensures { λ r. ⌜ r ≡ segmentScanned (now (card .entry)) after (around (placeCount (now (card .entry))) start len) ⌝ }
-{
-    let mut last = after;
-    let mut j: u16 = 0;
-    while j < len {
-        let block = scan_place(card, k.place_on(start, j));
-        let rises = last < block.first;
-        if !(block.formed & rises) {
-            return UNSOUND;
-        }
-        last = block.last;
-        j += 1;
-    }
-    SegmentScan { sound: true, last }
-}
-
-// Whether the old segment is sound and rises, and its first block reaches above the boundary.
-fn old_is_sound(card: &[u32], k: Configuration) -> bool
-    requires { ⌜ Ordered (now card) k ⌝ }
-    ensures { λ r. ⌜ r ≡ (segmentSound (now (card .entry)) 0 (oldPlaces (now (card .entry))) && firstReaches (now (card .entry)) (k .boundary) (oldPlaces (now (card .entry)))) ⌝ }
-{
-    let start = k.old_start;
-    let len = k.old_length;
-    if len == 0 {
-        return true;
-    }
-    let first = scan_place(card, start);
-    if !(first.formed & (k.boundary < first.last)) {
-        return false;
-    }
-    let rest = scan_segment(card, k, k.place_on(start, 1), len - 1, first.last);
-    rest.sound
-}
-
-// The number of a card, 0 where it is sound.
-pub fn judge(card: &[u32]) -> u32
-    ensures { λ r. ⌜ r ≡ judged (now (card .entry)) ⌝ }
-{
-    let number = configuration_number(card);
-    if number != 0 {
-        return number;
-    }
-    let k = Configuration::of(card);
-    let new = scan_segment(card, k, k.new_start(), k.new_length, 0);
-    if !(new.sound & (new.last == k.boundary)) {
-        return BAD_BLOCKS;
-    }
-    if !old_is_sound(card, k) {
-        return BAD_BLOCKS;
     }
     0
 }

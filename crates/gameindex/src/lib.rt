@@ -24,7 +24,7 @@ pub extern "C" fn gi_format(card: &mut [u32], b: u32, n: u32) -> u32
 pub extern "C" fn gi_judge(card: &[u32]) -> u32
     ensures { λ r. ⌜ r ≡ judged (now (card .entry)) ⌝ }
 {
-    card::judge(card)
+    judge::judge(card)
 }
 
 // 1 for true, 0 for false.

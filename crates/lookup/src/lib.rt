@@ -30,7 +30,7 @@ pub enum LookupAnswer {
 pub(crate) fn question_number(card: &[u32], term: u32, from: u32, to: u32) -> u32
     ensures { λ r. ⌜ r ≡ questionNumber (now (card .entry)) term from to ⌝ }
 {
-    let number = card::judge(card);
+    let number = judge::judge(card);
     if number != 0 {
         return number;
     }

@@ -2,9 +2,9 @@
 ghost use Rattle.lookup.specs.code.Walk.{PlacePart, Sought, WalkStarted, Next};
 use crate::map::opened;
 use crate::question_number;
-use wanted::Part;
 use card::layout;
 use card::layout::Configuration;
+use wanted::Part;
 
 // Blocks of one segment: so many places from one on, around the circle. Wanted of them are positions above after.
 pub struct Stretch {

@@ -12,11 +12,11 @@ ghost use Rattle.update.specs.Span.{writeSpan};
 ghost use Rattle.update.specs.Step.{step};
 ghost use Rattle.update.specs.Answer.{numberOf, writeOf, freedOf, finishedOf, answerOf};
 ghost use Rattle.update.specs.code.Plan.{Freed, followed, settling, Planned};
-use pack::WORDS_MOST;
 use card::layout;
 use card::layout::CONFIGURATION_WORDS;
 use card::layout::Configuration;
 use due::Due;
+use pack::WORDS_MOST;
 
 mod due;
 mod merge;
@@ -244,7 +244,7 @@ fn advance(card: &mut [u32], batch: &[u32], words: &mut [u32]) -> StepAnswer
 pub fn step(card: &mut [u32], batch: &[u32]) -> StepAnswer
     ensures { λ r. ⌜ (r ≡ answerOf (step (now (card .entry)) (now (batch .entry)))) × (now (card .exit) ≡ step (now (card .entry)) (now (batch .entry)) .card) ⌝ }
 {
-    let judged = card::judge(card);
+    let judged = judge::judge(card);
     if judged != 0 {
         return StepAnswer::Refused(judged);
     }
@@ -269,7 +269,7 @@ pub struct WriteSpan {
 pub fn write_span(card: &[u32], write: u32) -> WriteSpan
     ensures { λ r. ⌜ r ≡ writeSpan (now (card .entry)) write ⌝ }
 {
-    let judged = card::judge(card);
+    let judged = judge::judge(card);
     if judged != 0 {
         return WriteSpan {
             number: judged,

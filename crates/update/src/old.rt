@@ -4,10 +4,10 @@ ghost use Rattle.card.specs.Layout.{oldPlaces};
 ghost use Rattle.card.specs.Sound.{judged};
 ghost use Rattle.update.specs.code.Old.{BlockEntry, entryRead, Stands, Advanced, Skipped, beforeFirst};
 ghost use Rattle.update.specs.Step.{spent};
-use wanted::reads_on;
 use card::layout;
 use card::layout::Configuration;
 use pair::Pair;
+use wanted::reads_on;
 
 // A place in the old segment: the next place and how many are left; the next word of the block in hand and its end; the term in
 // hand and how many of its positions are still to come; the rank of the pair in hand, 0 for none.

@@ -6,9 +6,9 @@ use lib.ListN.{getD}
 use Rattle.pair.specs.Rising.{risingFrom, last}
 use Rattle.block.specs.Block.{pairs, formed}
 use Rattle.block.specs.declared.BlockScan.{BlockScan}
-use Rattle.card.specs.declared.SegmentScan.{SegmentScan}
+use Rattle.judge.specs.declared.SegmentScan.{SegmentScan}
 use Rattle.card.specs.Layout.{place, pairsAt}
 use Rattle.card.specs.Sound.{liveBlock, blocksSound}
 
 unfoldable pub blockScanned : List ℕ → ℕ → BlockScan
 blockScanned c i =

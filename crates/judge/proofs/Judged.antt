@@ -9,15 +9,15 @@ use lib.Dec.{eqb}
 use Rattle.pair.specs.Rising.{risingFrom, last}
 use Rattle.pair.specs.Tests.{firstOf}
 use Rattle.pair.proofs.FirstOf.{passed, firstOf-early, firstOf-append, firstOf-all-pass}
-use Rattle.card.specs.declared.SegmentScan.{SegmentScan}
+use Rattle.judge.specs.declared.SegmentScan.{SegmentScan}
 use Rattle.card.specs.declared.layout.Configuration.{Configuration}
 use Rattle.card.specs.Layout.{placeCount, oldLength, newLength, boundary, oldPlaces, newPlaces, pairsAt}
 use Rattle.card.specs.Sound.{blocksSound, firstReaches, configurationConditions, segmentsSound, judged}
 use Rattle.card.specs.code.Configuration.{ConfigurationOf, Ordered}
-use Rattle.card.specs.code.Scan.{segmentSound, segmentScanned}
-use Rattle.card.proofs.Judging.{tested}
+use Rattle.judge.specs.code.Scan.{segmentSound, segmentScanned}
+use Rattle.judge.proofs.Judging.{tested}
 use Rattle.card.proofs.Limits.{limits}
 use Rattle.card.proofs.Ordered.{ordered}
 
 -- a configuration in order, by value
 pub configured : {c : List ℕ} {k : Configuration} → firstOf (configurationConditions c) ≡ 0 → ConfigurationOf c k → Ordered c k

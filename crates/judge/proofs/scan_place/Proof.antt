@@ -1,10 +1,10 @@
--- `card::scan_place` meets its contract: the scan's answer stands where the map has the block's first pair.
+-- `judge::scan_place` meets its contract: the scan's answer stands where the map has the block's first pair.
 use mathlib.Core.Path.{ap, _∙_}
 use Rattle.block.specs.code.Scan.{scanned}
-use Rattle.card.proofs.Judging.{scanned-live, scanned-dead}
+use Rattle.judge.proofs.Judging.{scanned-live, scanned-dead}
 use borrow.Author.Needs.{needs}
-use Rattle.card.proofs.scan_place.Statement.{statement}
-use Rattle.card.proofs.scan_place.Tie as tie
+use Rattle.judge.proofs.scan_place.Statement.{statement}
+use Rattle.judge.proofs.scan_place.Tie as tie
 
 place-requires : tie.Need-place-requires
 place-requires c κs = search needs

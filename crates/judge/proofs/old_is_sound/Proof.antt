@@ -1,4 +1,4 @@
--- `card::old_is_sound` meets its contract: without an old segment nothing is asked; else its first block counts, and the rest from its last pair.
+-- `judge::old_is_sound` meets its contract: without an old segment nothing is asked; else its first block counts, and the rest from its last pair.
 use Prim.Native.Nat.{ℕ, _+_, _-_}
 use native.Mathlib.Omega.{arith}
 use mathlib.Core.Path.{_≡_, sym, ap, _∙_}
@@ -6,13 +6,13 @@ use mathlib.Core.List.{List, _∷_}
 use denote.Ref.{now}
 use borrow.Author.Tests.{not-true, not-false}
 use Rattle.pair.specs.Rank.{Words}
 use Rattle.card.specs.Layout.{placeCount, oldStart, oldLength, around, oldPlaces}
-use Rattle.card.specs.code.Scan.{blockScanned, segmentScanned}
-use Rattle.card.proofs.Judging.{old-none, old-places, old-turn, old-stop}
+use Rattle.judge.specs.code.Scan.{blockScanned, segmentScanned}
+use Rattle.judge.proofs.Judging.{old-none, old-places, old-turn, old-stop}
 use Rattle.card.proofs.Ordered.{around-on}
 use borrow.Author.Needs.{needs}
-use Rattle.card.proofs.old_is_sound.Statement.{statement}
-use Rattle.card.proofs.old_is_sound.Tie as tie
+use Rattle.judge.proofs.old_is_sound.Statement.{statement}
+use Rattle.judge.proofs.old_is_sound.Tie as tie
 
 abbrev W : tie.Start → List ℕ
 W s = now (s .args .card)

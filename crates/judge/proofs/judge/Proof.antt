@@ -1,4 +1,4 @@
--- `card::judge` meets its contract: the configuration's number comes first, then 4 where the new or the old segment is not sound.
+-- `judge::judge` meets its contract: the configuration's number comes first, then 4 where the new or the old segment is not sound.
 use Prim.Native.Nat.{ℕ}
 use mathlib.Core.Path.{_≡_, sym, ap, _∙_}
 use mathlib.Core.Bool.{cond}
@@ -6,15 +6,15 @@ use mathlib.Core.List.{List}
 use denote.Ref.{now}
 use borrow.Author.Tests.{not-true, not-false}
 use Rattle.pair.specs.Tests.{firstOf}
 use Rattle.card.specs.Layout.{oldStart, oldLength, newLength, newPlaces}
 use Rattle.card.specs.Sound.{configurationConditions, judged}
 use Rattle.card.specs.code.Configuration.{Ordered}
-use Rattle.card.specs.code.Scan.{segmentScanned}
-use Rattle.card.proofs.Judged.{configured, judged-early, judged-new, judged-old}
+use Rattle.judge.specs.code.Scan.{segmentScanned}
+use Rattle.judge.proofs.Judged.{configured, judged-early, judged-new, judged-old}
 use Rattle.card.proofs.Ordered.{around-on}
 use borrow.Author.Needs.{needs}
-use Rattle.card.proofs.judge.Statement.{statement}
-use Rattle.card.proofs.judge.Tie as tie
+use Rattle.judge.proofs.judge.Statement.{statement}
+use Rattle.judge.proofs.judge.Tie as tie
 
 abbrev W : tie.Start → List ℕ
 W s = now (s .args .card)

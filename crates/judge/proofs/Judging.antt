@@ -15,11 +15,11 @@ use Rattle.block.specs.Block.{pairs, formed}
 use Rattle.block.specs.code.Scan.{scanned}
 use Rattle.block.specs.declared.BlockScan.{BlockScan}
 use Rattle.block.proofs.Reading.{formed-rising, formed-some}
 use Rattle.card.proofs.Circle.{around-cons}
 use Rattle.card.proofs.Live.{place-words}
 use Rattle.card.specs.Layout.{oldStart, oldLength, oldPlaces, placeCount, firstPair, place, around, pairsAt}
 use Rattle.card.specs.Sound.{liveBlock, blocksSound, firstReaches}
-use Rattle.card.specs.code.Scan.{blockScanned, segmentSound, segmentScanned}
+use Rattle.judge.specs.code.Scan.{blockScanned, segmentSound, segmentScanned}
 
 -- a test beside a value that stands only where the block is live
 pub tested : (f : Bool) (t : ℕ → Bool) (g : ℕ) → (f && t (cond f g 0)) ≡ (f && t g)

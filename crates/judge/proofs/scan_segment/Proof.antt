@@ -1,16 +1,16 @@
--- `card::scan_segment` meets its contract. The invariant, Walking: the segment is as a whole what the places from j on are, after the last pair in hand.
+-- `judge::scan_segment` meets its contract. The invariant, Walking: the segment is as a whole what the places from j on are, after the last pair in hand.
 use Prim.Native.Nat.{_+_, _-_, _%_}
 use native.Mathlib.Omega.{arith}
 use mathlib.Core.Path.{_≡_, ap, _∙_}
 use borrow.Author.Tests.{not-true, not-false}
 use Rattle.pair.specs.Rank.{Words}
 use Rattle.card.specs.Layout.{placeCount}
-use Rattle.card.specs.code.Scan.{blockScanned}
-use Rattle.card.proofs.Judging.{Walking, walking-start, walking-turn, walking-stop, walking-end}
+use Rattle.judge.specs.code.Scan.{blockScanned}
+use Rattle.judge.proofs.Judging.{Walking, walking-start, walking-turn, walking-stop, walking-end}
 use Rattle.card.proofs.Ordered.{place-on}
 use borrow.Author.Needs.{needs}
-use Rattle.card.proofs.scan_segment.Statement.{statement}
-use Rattle.card.proofs.scan_segment.Tie as tie
+use Rattle.judge.proofs.scan_segment.Statement.{statement}
+use Rattle.judge.proofs.scan_segment.Tie as tie
 
 abbrev Inv-loop : tie.InvT-loop
 Inv-loop card k start len after last₀ j₀ last j = Walking card start len after last j
