@@ -4,7 +4,7 @@ use mathlib.Core.Path.{_≡_, ap, _∙_}
 use mathlib.Core.List.{List}
 use Rattle.lookup.specs.declared.LookupAnswer.{LookupAnswer}
 use Rattle.lookup.specs.Answer.{numberOf, countOf, blocksReadOf, answerOf}
-use Rattle.lookup.specs.Found.{lookup}
+use Rattle.found.specs.Found.{lookup}
 use Rattle.lookup.proofs.CodeAnswers.{answer-numbers}
 use Rattle.gameindex.specs.Flat.{Filled, LookedUp}
 

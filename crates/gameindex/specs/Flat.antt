@@ -7,7 +7,7 @@ use Rattle.update.specs.Step.{Step}
 use Rattle.update.specs.declared.WriteSpan.{WriteSpan}
 use Rattle.lookup.specs.declared.LookupAnswer.{LookupAnswer}
 use Rattle.lookup.specs.Answer.{numberOf, countOf, blocksReadOf}
-use Rattle.lookup.specs.Found.{Lookup}
+use Rattle.found.specs.Found.{Lookup}
 
 abbrev pub flag : Bool → ℕ
 flag b = cond b 1 0

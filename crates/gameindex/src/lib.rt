@@ -6,8 +6,8 @@ ghost use Rattle.update.specs.Span.{writeSpan};
 ghost use Rattle.update.specs.Step.{step};
 ghost use Rattle.pair.specs.Bounds.{lowest, highest};
 ghost use Rattle.gameindex.specs.Flat.{flag, Stepped, Spanned, Filled, LookedUp};
-ghost use Rattle.lookup.specs.Found.{lookup};
-ghost use Rattle.lookup.specs.Views.{Viewed};
+ghost use Rattle.found.specs.Found.{lookup};
+ghost use Rattle.found.specs.Views.{Viewed};
 ghost use Rattle.reader.specs.Reader.{read, ReadOff};
 use lookup::LookupAnswer;
 

@@ -19,9 +19,9 @@ use Rattle.card.proofs.Live.{live-rising}
 use Rattle.batch.specs.Batch.{batchNumber}
 use Rattle.update.specs.Step.{stepNumber, taken, refused, step}
 use Rattle.update.proofs.Steps.{step-taken, step-refused, step-number}
-use Rattle.lookup.specs.Found.{found, questionNumber, lookupNumber, lookup}
-use Rattle.lookup.proofs.Answers.{lookup-asked, lookup-found, lookup-number}
-use Rattle.lookup.proofs.Positions.{range-rises}
+use Rattle.found.specs.Found.{found, questionNumber, lookupNumber, lookup}
+use Rattle.found.proofs.Answers.{lookup-asked, lookup-found, lookup-number}
+use Rattle.found.proofs.Positions.{range-rises}
 use Rattle.history.specs.History.{History, toWrite, Event, stepped, cut, looked, restarted, formats, Admitted, Answered, OfWords}
 use Rattle.history.proofs.Keeping.{Keeping, keeping-remains}
 

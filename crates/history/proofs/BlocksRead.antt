@@ -1,5 +1,5 @@
 -- The blocks read are at most two more than the blocks that hold a live posting in range.
-use Rattle.lookup.proofs.Bound.{blocksRead-bound}
+use Rattle.found.proofs.Bound.{blocksRead-bound}
 use Rattle.history.specs.Claims.{BlocksReadBound}
 
 pub blocksReadBound : BlocksReadBound

@@ -12,7 +12,7 @@ use Rattle.card.specs.Layout.{widthOf, firstPair, place, around, pairsAt, live,
 use Rattle.card.specs.Sound.{blocksSound, firstReaches, boundaryAgrees, segmentsSound, judged}
 use Rattle.batch.specs.Batch.{updates, anyUpdate, adds, removes, withdrawn, withAdded, applied, illFormed, falls, batchNumber}
 use Rattle.update.specs.Step.{remains, spent, nextBoundary, freed, grown, crowded, stepNumber}
-use Rattle.lookup.specs.Found.{mappedTo, span, blocksRead, holders, questionNumber}
+use Rattle.found.specs.Found.{mappedTo, span, blocksRead, holders, questionNumber}
 use Rattle.history.specs.Claims.{freePlaces}
 
 -- a sound card of three places of 8 words with two old blocks: (1,1) to (1,6), and (2,1)

@@ -7,7 +7,7 @@ use Rattle.card.specs.Layout.{widthOf, firstPair, place, around, pairsAt, live,
 use Rattle.card.specs.Sound.{blocksSound, firstReaches, boundaryAgrees, segmentsSound, judged}
 use Rattle.batch.specs.Batch.{updates, anyUpdate, adds, removes, withdrawn, withAdded, applied, illFormed, falls, batchNumber}
 use Rattle.update.specs.Step.{remains, spent, configured, nextBoundary, freed, grown, configuration, dueBlock, dueEntry, nextWrite, theWrite, crowded, stepNumber, taken, refused, step}
-use Rattle.lookup.specs.Found.{found, mappedTo, span, blocksRead, questionNumber, lookupNumber, lookup}
+use Rattle.found.specs.Found.{found, mappedTo, span, blocksRead, questionNumber, lookupNumber, lookup}
 use Rattle.history.specs.Cases.{afterSteps, makesAll, seen, allSeen, fresh, first, Cases}
 
 pub cases : Cases

@@ -8,8 +8,8 @@ use lib.ListN.{length, take}
 use lib.Seq.{sets, take-all}
 use Rattle.pair.proofs.FirstOf.{passed, handed-on}
 use Rattle.card.proofs.Parts.{part-sets-same}
-use Rattle.lookup.specs.Found.{found, questionNumber, lookupNumber}
-use Rattle.lookup.proofs.Answers.{lookup-found, lookup-number}
+use Rattle.found.specs.Found.{found, questionNumber, lookupNumber}
+use Rattle.found.proofs.Answers.{lookup-found, lookup-number}
 use Rattle.reader.specs.Reader.{allYielded, yielded, read}
 use Rattle.history.specs.Claims.{ReaderYieldsLookup, ReadingIsLookup}
 

@@ -9,7 +9,7 @@ use Rattle.pair.specs.Rank.{rank}
 use Rattle.pair.specs.Tests.{same}
 use Rattle.card.specs.Layout.{widthOf, cardLength, place, live, formatted}
 use Rattle.update.specs.Step.{step}
-use Rattle.lookup.specs.Found.{lookup}
+use Rattle.found.specs.Found.{lookup}
 
 -- an answer of a step: the write, the places freed, and 1 where the pass finished
 abbrev pub Made : Type 0

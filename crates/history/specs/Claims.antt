@@ -15,7 +15,7 @@ use Rattle.batch.specs.Batch.{Update, updates, anyUpdate, applied, batchNumber}
 use Rattle.update.specs.Span.{writeSpan}
 use Rattle.update.specs.Step.{withWrite, remains, stepNumber, step}
 use Rattle.update.specs.Pass.{stepLimit, finishesWithin, refusedWithin}
-use Rattle.lookup.specs.Found.{questionNumber, blocksRead, holders, lookup}
+use Rattle.found.specs.Found.{questionNumber, blocksRead, holders, lookup}
 use Rattle.reader.specs.Reader.{posting, ended, yielded, read}
 use Rattle.history.specs.History.{Event, stepped, cut, looked, restarted, formats, after, AllOfWords}
 

@@ -1,50 +1,25 @@
 -- What a lookup and a run view answer, refused or not.
-use Prim.Native.Nat.{ℕ, _+_, _*_, _-_, _≤_, _<_, zero-le}
+use Prim.Native.Nat.{ℕ, _+_, _*_, _-_, _≤_, _<_}
 use native.Mathlib.Omega.{arith}
 use mathlib.Core.Path.{_≡_, refl, sym, ap, _∙_}
-use mathlib.Core.Bool.{Bool, true, false, _||_, not}
+use mathlib.Core.Bool.{Bool, true, false}
 use mathlib.Core.List.{List}
 use borrow.Author.Tests.{eq-eqb, ne-eqb, eqb-true, lt-ltb, le-ltb}
 use lib.ListN.{length, take, drop}
 use lib.Seq.{sets}
-use lib.Dec.{ltb, eqb}
-use Rattle.pair.specs.Bounds.{isPair}
-use Rattle.pair.specs.Rank.{wordLimit}
+use lib.Dec.{eqb}
 use Rattle.pair.specs.Tests.{firstOf}
-use Rattle.pair.proofs.Bounds.{isPair-word}
-use Rattle.card.specs.Sound.{judged}
 use Rattle.card.proofs.Parts.{length-part}
-use Rattle.lookup.specs.declared.walk.Walk.{Walk}
-use Rattle.lookup.specs.declared.walk.WalkRun.{WalkRun}
+use Rattle.found.specs.declared.walk.WalkStart.{WalkStart}
+use Rattle.found.specs.declared.walk.WalkRun.{WalkRun}
 use Rattle.lookup.specs.declared.LookupAnswer.{LookupAnswer}
 use Rattle.lookup.specs.declared.LookupAnswer.the-variants.{Refused, Found}
 use Rattle.lookup.specs.Answer.{numberOf, countOf, blocksReadOf, answerOf}
-use Rattle.lookup.specs.Views.{run, runStart, Viewed}
-use Rattle.lookup.specs.Found.{found, questionNumber, lookupNumber, Lookup, lookup}
-use Rattle.lookup.specs.code.Segment.{LookupWalk}
-use Rattle.lookup.specs.code.Walk.{ahead, blocksOf, Next}
-use Rattle.lookup.proofs.Answers.{lookup-found, lookup-refused}
-
--- the test of the question: of 32-bit words, those that are no pair have a 0 among them
-pub question-test : (t a z : ℕ) {b : Bool} → t < wordLimit → a < wordLimit → b ≡ isPair t a → ((eqb t 0 || eqb a 0) || ltb z a) ≡ (not b || ltb z a)
-question-test t a z h k e = rw (e, isPair-word t a h k) (ap (λ x. x || ltb z a) (twice (eqb t 0 || eqb a 0)))
-  where
-    twice : (x : Bool) → x ≡ not (not x)
-    twice true = refl
-    twice false = refl
-
--- the question's number
-pub question-refused : (c : List ℕ) (t a z n : ℕ) → n ≡ judged c → (n ≡ 0 → ⊥) → n ≡ questionNumber c t a z
-unfolding questionNumber firstOf
-question-refused c t a z n e h = rw (ne-eqb (judged c) 0 (λ q. h (e ∙ q))) e
-
-pub question-none : (c : List ℕ) (t a z n : ℕ) → n ≡ judged c → n ≡ 0 → ((eqb t 0 || eqb a 0) || ltb z a) ≡ true → 9 ≡ questionNumber c t a z
-unfolding questionNumber firstOf
-question-none c t a z n e h q = rw (eq-eqb (judged c) 0 (sym e ∙ h), q)
-
-pub question-asked : (c : List ℕ) (t a z n : ℕ) → n ≡ judged c → n ≡ 0 → ((eqb t 0 || eqb a 0) || ltb z a) ≡ false → 0 ≡ questionNumber c t a z
-unfolding questionNumber firstOf
-question-asked c t a z n e h q = rw (eq-eqb (judged c) 0 (sym e ∙ h), q)
+use Rattle.found.specs.Views.{run, runStart, Viewed}
+use Rattle.found.specs.Found.{found, questionNumber, lookupNumber, Lookup, lookup}
+use Rattle.found.specs.code.Walk.{ahead, blocksOf, WalkStarted, Next}
+use Rattle.found.proofs.Answers.{lookup-found, lookup-refused}
+use Rattle.found.proofs.Starting.{started-found, started-blocks}
 
 -- the lookup's number
 number-question : (c : List ℕ) (t a z : ℕ) (ans : List ℕ) (n : ℕ) → n ≡ questionNumber c t a z → (n ≡ 0 → ⊥) → lookupNumber c t a z ans ≡ n
@@ -73,23 +48,23 @@ module _ (c : List ℕ) (t a z : ℕ) (ans : List ℕ) where
 
   -- for its answer words
   pub answered-short :
-      {n : ℕ} {w : Walk} → n ≡ questionNumber c t a z → n ≡ 0 → LookupWalk c t a z w → {m : ℕ} → m ≡ length (ahead c w) → length ans < m →
+      {r : WalkStart} → WalkStarted c t a z r → r .number ≡ 0 → {m : ℕ} → m ≡ length (ahead c (r .walk)) → length ans < m →
       AnsweredAs c t a z ans (Refused 10) ans
-  answered-short {n} {w} e h o {m} f l =
-      let short : length ans < length (found c t a z) = rw (← o .found) (omega arith) in
-      let k : lookupNumber c t a z ans ≡ 10 = number-short c t a z ans (sym e ∙ h) short in
+  answered-short {r} s h {m} f l =
+      let short : length ans < length (found c t a z) = rw (← started-found s h) (omega arith) in
+      let k : lookupNumber c t a z ans ≡ 10 = number-short c t a z ans (sym (s .number) ∙ h) short in
       let l = lookup-refused c t a z ans (rw k refl) in
       (rw (l, k), rw l)
 
   -- and one that is not refused
   pub answered-found :
-      {n : ℕ} {w : Walk} → n ≡ questionNumber c t a z → n ≡ 0 → LookupWalk c t a z w → {m : ℕ} → m ≡ length (ahead c w) → m ≤ length ans →
-      {after : List ℕ} → after ≡ sets ans 0 (ahead c w) → AnsweredAs c t a z ans (Found m (blocksOf w)) after
-  answered-found {n} {w} e h o {m} f l {after} s =
-      let room : length (found c t a z) ≤ length ans = rw (← o .found) (omega arith) in
-      let k : lookupNumber c t a z ans ≡ 0 = number-none c t a z ans (sym e ∙ h) room in
+      {r : WalkStart} → WalkStarted c t a z r → r .number ≡ 0 → {m : ℕ} → m ≡ length (ahead c (r .walk)) → m ≤ length ans →
+      {after : List ℕ} → after ≡ sets ans 0 (ahead c (r .walk)) → AnsweredAs c t a z ans (Found m (blocksOf (r .walk))) after
+  answered-found {r} s h {m} f l {after} e =
+      let room : length (found c t a z) ≤ length ans = rw (← started-found s h) (omega arith) in
+      let k : lookupNumber c t a z ans ≡ 0 = number-none c t a z ans (sym (s .number) ∙ h) room in
       let l = lookup-found c t a z ans k in
-      (rw (l, f, o .found, o .blocks), rw (l, s, o .found))
+      (rw (l, f, started-found s h, started-blocks s h), rw (l, e, started-found s h))
 
 -- the numbers of a lookup's answer are those of the lookup
 pub record AnswerNumbers (r : LookupAnswer) (l : Lookup) : Type 0 where
@@ -108,19 +83,14 @@ answer-numbers c t a z ans = go (eqb (lookupNumber c t a z ans) 0) refl
         let l = lookup-refused c t a z ans e in
         record { number = rw (l, e); count = rw (l, e); blocks = rw (l, e) }
 
--- the run view's part of the card, refused or not
-pub viewed-refused : {c : List ℕ} {t a z n : ℕ} → n ≡ questionNumber c t a z → (n ≡ 0 → ⊥) → Viewed c t a z n 0 0
-unfolding run runStart
-viewed-refused {c} {t} {a} {z} e h =
-    let f = ne-eqb (questionNumber c t a z) 0 (λ q. h (e ∙ q)) in
-    record { ofNumber = e; ofStart = rw f; ofLength = rw f; inside = zero-le; part = rw f }
-
-pub viewed-found :
-    {c : List ℕ} {t a z n : ℕ} {w : Walk} {r : WalkRun} → n ≡ questionNumber c t a z → LookupWalk c t a z w → Next c w r → Viewed c t a z n (r .start) (r .len)
-viewed-found {c} {t} {a} {z} {n} {w} {r} e o x =
+-- the run view's part of the card is the first run of the walk, refused or not
+pub viewed :
+    {c : List ℕ} {t a z : ℕ} {s : WalkStart} {r : WalkRun} → WalkStarted c t a z s → Next c (s .walk) r →
+    Viewed c t a z (s .number) (r .start) (r .len)
+viewed {c} {t} {a} {z} {s} {r} o x =
     let same : take (r .len) (drop (r .start) c) ≡ run c t a z = x .run (o .ready) ∙ o .run in
     record {
-      ofNumber = e;
+      ofNumber = o .number;
       ofStart = x .starts (o .ready) ∙ o .start;
       ofLength = sym (length-part c (r .start) (r .len) (x .inside)) ∙ ap length same;
       inside = x .inside;

@@ -6,9 +6,9 @@ use mathlib.Core.List.{List, [], _++_, append-assoc, append-nil}
 use lib.ListN.{length, take, drop, getD, set, length-append, length-drop}
 use lib.Seq.{sets, getD-drop, length-sets}
 use Rattle.card.proofs.Parts.{length-part, sets-append, sets-next}
-use Rattle.lookup.specs.declared.walk.Walk.{Walk}
-use Rattle.lookup.specs.declared.walk.WalkRun.{WalkRun}
-use Rattle.lookup.specs.code.Walk.{ahead, ReadyWalk, Next}
+use Rattle.found.specs.declared.walk.Walk.{Walk}
+use Rattle.found.specs.declared.walk.WalkRun.{WalkRun}
+use Rattle.found.specs.code.Walk.{ahead, ReadyWalk, Next}
 
 -- n positions of those ahead of the walk v are counted, and the others are ahead of w
 pub record Counting (c : List ℕ) (v w : Walk) (n : ℕ) : Type 0 where

@@ -4,7 +4,7 @@ use mathlib.Core.Bool.{cond}
 use lib.Dec.{eqb}
 use Rattle.lookup.specs.declared.LookupAnswer.{LookupAnswer}
 use Rattle.lookup.specs.declared.LookupAnswer.the-variants.{Refused, Found}
-use Rattle.lookup.specs.Found.{Lookup}
+use Rattle.found.specs.Found.{Lookup}
 
 -- the number, the count of positions and the count of blocks read that each case of the answer stands for
 abbrev pub numberOf : LookupAnswer → ℕ

@@ -1,4 +1,1 @@
 pub mod Answer
-pub mod Found
-pub mod Views
-pub mod code

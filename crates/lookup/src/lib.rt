@@ -2,22 +2,19 @@
 ghost use mathlib.Core.Path.{_≡_};
 ghost use Prim.Native.Nat.{_+_, _*_};
 ghost use Rattle.pair.specs.Bounds.{lowest, highest};
-ghost use Rattle.lookup.specs.Found.{questionNumber, lookup};
-ghost use Rattle.lookup.specs.Views.{run, runStart, Viewed};
+ghost use Rattle.found.specs.Found.{questionNumber, lookup};
+ghost use Rattle.found.specs.Views.{run, runStart, Viewed};
 ghost use Rattle.lookup.specs.Answer.{answerOf};
-use crate::map::opened;
 use crate::taking::copy_ahead;
 use crate::taking::count_ahead;
-use crate::walk::next_run;
+use found::question_number;
+use found::walk::next_run;
+use found::walk::start_walk;
 use pair::Pair;
 
-pub mod map; // the blocks that are read, found by the map
-pub mod taking; // the wanted positions of a walk counted, and moved to answer words
-pub mod walk; // the blocks that are read, one run of wanted positions after another
+mod taking; // the wanted positions of a walk counted, and moved to answer words
 
-// The numbers of whoever looks up.
-const NO_QUESTION: u32 = 9;
-
+// The number of a lookup with fewer answer words than positions.
 const TOO_FEW_WORDS: u32 = 10;
 
 // A lookup's answer: the number of a refusal, or how many positions were found and how many blocks were read.
@@ -26,29 +23,16 @@ pub enum LookupAnswer {
     Found { count: u32, blocks: u32 },
 }
 
-// The number of a question that is refused, 0 where it is not.
-pub(crate) fn question_number(card: &[u32], term: u32, from: u32, to: u32) -> u32
-    ensures { λ r. ⌜ r ≡ questionNumber (now (card .entry)) term from to ⌝ }
-{
-    let number = judge::judge(card);
-    if number != 0 {
-        return number;
-    }
-    if !pair::is_pair(term, from) | (to < from) {
-        return NO_QUESTION;
-    }
-    0
-}
-
 // Writes the live positions of the term, from one to another, into the first answer words.
 pub fn lookup(card: &[u32], term: u32, from: u32, to: u32, answer: &mut [u32]) -> LookupAnswer
     ensures { λ r. ⌜ (r ≡ answerOf (lookup (now (card .entry)) term from to (now (answer .entry)))) × (now (answer .exit) ≡ lookup (now (card .entry)) term from to (now (answer .entry)) .answer) ⌝ }
 {
-    let number = question_number(card, term, from, to);
+    let start = start_walk(card, term, from, to);
+    let number = start.number;
     if number != 0 {
         return LookupAnswer::Refused(number);
     }
-    let walk = opened(card, term, from, to);
+    let walk = start.walk;
     let count = count_ahead(card, walk);
     if answer.len() < count {
         return LookupAnswer::Refused(TOO_FEW_WORDS);
@@ -84,18 +68,13 @@ pub struct RunPart {
 pub fn run_part(card: &[u32], term: u32, from: u32, to: u32) -> RunPart
     ensures { λ r. ⌜ Viewed (now (card .entry)) term from to (r .number) (r .start) (r .len) ⌝ }
 {
-    let number = question_number(card, term, from, to);
-    if number != 0 {
-        return RunPart {
-            number,
-            start: 0,
-            len: 0,
-        };
+    let start = start_walk(card, term, from, to);
+    let run = next_run(card, start.walk);
+    RunPart {
+        number: start.number,
+        start: run.start,
+        len: run.len,
     }
-    let found = next_run(card, opened(card, term, from, to));
-    let start = found.start;
-    let len = found.len;
-    RunPart { number, start, len }
 }
 
 // The number of a run view.

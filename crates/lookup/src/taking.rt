@@ -4,9 +4,9 @@ ghost use Prim.Native.Nat.{_+_, _<_, _≤_};
 ghost use lib.ListN.{length, take, drop};
 ghost use lib.Seq.{sets};
 ghost use Rattle.pair.specs.Rank.{wordLimit};
-ghost use Rattle.lookup.specs.code.Walk.{ahead, ReadyWalk};
-use crate::walk::Walk;
-use crate::walk::next_run;
+ghost use Rattle.found.specs.code.Walk.{ahead, ReadyWalk};
+use found::walk::Walk;
+use found::walk::next_run;
 
 // How many wanted positions are ahead.
 pub(crate) fn count_ahead(card: &[u32], walk: Walk) -> usize

@@ -12,7 +12,7 @@ use Rattle.card.specs.Sound.{blocksSound, firstReaches, boundaryAgrees, segment
 use Rattle.batch.specs.Batch.{updates, anyUpdate, adds, removes, withdrawn, withAdded, applied, illFormed, falls, batchNumber}
 use Rattle.update.specs.Step.{remains, spent, configured, nextBoundary, freed, grown, configuration, dueBlock, dueEntry, nextWrite, theWrite, crowded, stepNumber, taken, refused, step}
 use Rattle.update.specs.Pass.{blocksFrom, blocks, finishesWithin, refusedWithin}
-use Rattle.lookup.specs.Found.{found, mappedTo, span, blocksRead, questionNumber, lookupNumber, lookup}
+use Rattle.found.specs.Found.{found, mappedTo, span, blocksRead, questionNumber, lookupNumber, lookup}
 use Rattle.history.specs.History.{just, tornWrite, torn}
 use Rattle.history.specs.History as history
 use Rattle.history.specs.Claims.{ran, finishing, finished}

@@ -5,7 +5,7 @@ use mathlib.Core.List.{List, map}
 use lib.ListN.{take, getD}
 use Rattle.pair.specs.Rank.{rank}
 use Rattle.card.specs.Layout.{boundary, oldPlaces, newPlaces}
-use Rattle.lookup.specs.Found.{questionNumber, blocksRead, holders, lookup}
+use Rattle.found.specs.Found.{questionNumber, blocksRead, holders, lookup}
 use Rattle.reader.specs.Reader.{posting, ended, yielded, read}
 use Rattle.history.specs.Claims.{BlocksReadBound, ReaderYieldsLookup, ReadingIsLookup}
 use Rattle.history.proofs.BlocksRead.{blocksReadBound}

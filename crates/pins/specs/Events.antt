@@ -5,7 +5,7 @@ use mathlib.Core.List.{List, [], _∷_, _++_}
 use lib.ListN.{replicate}
 use Rattle.card.specs.Layout.{formatNumber, formatted}
 use Rattle.update.specs.Step.{step}
-use Rattle.lookup.specs.Found.{lookup}
+use Rattle.found.specs.Found.{lookup}
 use Rattle.history.specs.History.{Event, stepped, cut, looked, restarted, formats, after}
 use Rattle.history.specs.Cases.{three}
 

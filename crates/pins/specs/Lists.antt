@@ -13,7 +13,7 @@ use Rattle.card.specs.Layout.{word, live, formatNumber, formatted}
 use Rattle.card.specs.Sound.{judged}
 use Rattle.batch.specs.Batch.{updates, applied}
 use Rattle.update.specs.Step.{step}
-use Rattle.lookup.specs.Found.{lookup}
+use Rattle.found.specs.Found.{lookup}
 use Rattle.history.specs.History.{History, started, landed, torn, Event, stepped, cut, looked, restarted, formats}
 
 -- the words of the events: that they are 32-bit words is all that is asked of a list

@@ -6,11 +6,11 @@ use mathlib.Core.Path.{_≡_, refl, sym, ap, _∙_}
 use mathlib.Core.List.{List, [], _∷_, _++_, map}
 use lib.ListN.{length, take, drop, getD}
 use lib.Seq.{drop-cons}
-use Rattle.lookup.specs.declared.walk.Walk.{Walk}
-use Rattle.lookup.specs.declared.walk.WalkStart.{WalkStart}
-use Rattle.lookup.specs.declared.walk.WalkRun.{WalkRun}
-use Rattle.lookup.specs.Found.{questionNumber}
-use Rattle.lookup.specs.code.Walk.{ahead, WalkStarted, Next}
+use Rattle.found.specs.declared.walk.Walk.{Walk}
+use Rattle.found.specs.declared.walk.WalkStart.{WalkStart}
+use Rattle.found.specs.declared.walk.WalkRun.{WalkRun}
+use Rattle.found.specs.Found.{questionNumber}
+use Rattle.found.specs.code.Walk.{ahead, WalkStarted, Next}
 use Rattle.reader.specs.declared.Yield.the-variants.{Posting, End}
 use Rattle.reader.specs.declared.cursor.Cursor.{Cursor}
 use Rattle.reader.specs.declared.cursor.Step.{Step}

@@ -6,7 +6,7 @@ use mathlib.Core.List.{List, [], map}
 use lib.ListN.{length, take, getD}
 use lib.Seq.{sets}
 use lib.Dec.{eqb}
-use Rattle.lookup.specs.Found.{found, questionNumber}
+use Rattle.found.specs.Found.{found, questionNumber}
 use Rattle.reader.specs.declared.Yield.{Yield}
 use Rattle.reader.specs.declared.Yield.the-variants.{Posting, End}
 

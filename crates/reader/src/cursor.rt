@@ -1,12 +1,12 @@
 // The posting reader's work on a plain slice and a cursor by value: a place in the card that moves on by one posting at a time.
 ghost use mathlib.Core.Path.{_≡_};
 ghost use Prim.Native.Nat.{ℕ};
-ghost use Rattle.lookup.specs.Found.{questionNumber};
+ghost use Rattle.found.specs.Found.{questionNumber};
 ghost use Rattle.reader.specs.code.Cursor.{CursorAfter, CursorStep, Later};
 use crate::Yield;
-use lookup::walk::Walk;
-use lookup::walk::next_run;
-use lookup::walk::start_walk;
+use found::walk::Walk;
+use found::walk::next_run;
+use found::walk::start_walk;
 
 // A place in a card: the postings that are left of a run, and the walk behind it. Only this crate makes one.
 pub struct Cursor {

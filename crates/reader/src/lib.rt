@@ -1,6 +1,6 @@
 // The posting reader: the card beside a place in it.
 ghost use mathlib.Core.Path.{_≡_};
-ghost use Rattle.lookup.specs.Found.{questionNumber};
+ghost use Rattle.found.specs.Found.{questionNumber};
 ghost use Rattle.reader.specs.code.Cursor.{CursorAfter, CursorStep};
 ghost use Rattle.reader.specs.Reader.{yielded, yieldOf, read, ReadOff};
 use crate::cursor::Cursor;

@@ -40,7 +40,7 @@ use denote.Triple.Spec.{Meets, tripleOf}
 use denote.Triple.Table.{entered, cited}
 use denote.Triple.Walked.{says, Stays, stay-none, stay-none-slice, walkOf, goes-none, goes-none-slice, Walks, ends-at, walked, walk-meets}
 use denote.Exit.{yes}
-use Rattle.lookup.specs.Found.{questionNumber}
+use Rattle.found.specs.Found.{questionNumber}
 use Rattle.reader.specs.Reader.{yielded, yieldOf}
 use Rattle.reader.specs.code.Cursor.{CursorAfter, Later}
 use Rattle.reader.specs.declared.Yield.{Yield}

@@ -3,7 +3,7 @@ use Prim.Native.Nat.{ℕ, _+_, _≤_, _<_}
 use mathlib.Core.Path.{_≡_}
 use mathlib.Core.List.{List, _++_}
 use lib.ListN.{length, take, drop, getD}
-use Rattle.lookup.specs.code.Walk.{ahead, ReadyWalk}
+use Rattle.found.specs.code.Walk.{ahead, ReadyWalk}
 use Rattle.reader.specs.declared.Yield.{Yield}
 use Rattle.reader.specs.declared.cursor.Cursor.{Cursor}
 use Rattle.reader.specs.declared.cursor.Step.{Step}

@@ -1,6 +1,6 @@
 -- `lookup::taking::copy_ahead` meets its contract. The invariant: the positions moved and those ahead are all.
 use native.Mathlib.Omega.{arith}
-use Rattle.lookup.specs.code.Walk.{blocksOf}
+use Rattle.found.specs.code.Walk.{blocksOf}
 use Rattle.lookup.proofs.Gathering.{Moving, moving-start, moving-length, moving-room, moving-turn, moving-end}
 use borrow.Author.Needs.{needs}
 use Rattle.lookup.proofs.taking.copy_ahead.Statement.{statement}

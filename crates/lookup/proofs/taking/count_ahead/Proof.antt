@@ -1,6 +1,6 @@
 -- `lookup::taking::count_ahead` meets its contract. The invariant: the positions counted and those ahead are all.
 use native.Mathlib.Omega.{arith}
-use Rattle.lookup.specs.code.Walk.{blocksOf}
+use Rattle.found.specs.code.Walk.{blocksOf}
 use Rattle.lookup.proofs.Gathering.{Counting, counting-start, counting-turn, counting-end}
 use borrow.Author.Needs.{needs}
 use Rattle.lookup.proofs.taking.count_ahead.Statement.{statement}

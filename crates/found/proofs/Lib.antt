@@ -1,0 +1,11 @@
+pub mod Answers
+pub mod Asking
+pub mod Bound
+pub mod Frame
+pub mod Mapping
+pub mod Opening
+pub mod Positions
+pub mod Span
+pub mod Starting
+pub mod Unread
+pub mod Walking
