@@ -4,7 +4,7 @@ use mathlib.Core.Path.{_≡_}
 use mathlib.Core.Bool.{Bool, cond}
 use mathlib.Core.List.{List}
 use Rattle.update.specs.Step.{Step}
-use Rattle.update.specs.declared.WriteSpan.{WriteSpan}
+use Rattle.span.specs.declared.WriteSpan.{WriteSpan}
 use Rattle.lookup.specs.declared.LookupAnswer.{LookupAnswer}
 use Rattle.lookup.specs.Answer.{numberOf, countOf, blocksReadOf}
 use Rattle.found.specs.Found.{Lookup}

@@ -2,7 +2,7 @@
 ghost use mathlib.Core.Path.{_≡_};
 ghost use Rattle.card.specs.Layout.{formatNumber, formatted};
 ghost use Rattle.card.specs.Sound.{judged};
-ghost use Rattle.update.specs.Span.{writeSpan};
+ghost use Rattle.span.specs.Span.{writeSpan};
 ghost use Rattle.update.specs.Step.{step};
 ghost use Rattle.pair.specs.Bounds.{lowest, highest};
 ghost use Rattle.gameindex.specs.Flat.{flag, Stepped, Spanned, Filled, LookedUp};
@@ -65,7 +65,7 @@ pub extern "C" fn gi_write_span(
 ) -> u32
     ensures { λ r. ⌜ Spanned r (now (start .exit)) (now (count .exit)) (writeSpan (now (card .entry)) write) ⌝ }
 {
-    let span = update::write_span(card, write);
+    let span = span::write_span(card, write);
     *start = span.start;
     *count = span.count;
     span.number

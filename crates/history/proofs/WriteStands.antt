@@ -15,8 +15,8 @@ use Rattle.card.specs.Sound.{judged}
 use Rattle.card.proofs.Facts.{facts}
 use Rattle.card.proofs.Frame.{Alike, word-alike}
 use Rattle.card.proofs.Parts.{word-sets-before, word-sets-after}
-use Rattle.update.specs.declared.WriteSpan.{WriteSpan}
-use Rattle.update.specs.Span.{writeSpan}
+use Rattle.span.specs.declared.WriteSpan.{WriteSpan}
+use Rattle.span.specs.Span.{writeSpan}
 use Rattle.update.specs.Step.{Write, withWrite, remains, configured, nextBoundary, freed, grown, configuration, nextWrite, theWrite, stepNumber, taken, refused, step}
 use Rattle.update.proofs.Frame.{duePlace-alike}
 use Rattle.update.proofs.Steps.{accepted, step-taken, step-refused, step-writes}

@@ -12,7 +12,7 @@ use Rattle.block.specs.Block.{fitting}
 use Rattle.card.specs.Layout.{word, placeCount, oldLength, newLength, blockSize, boundary, oldPlaces, newPlaces, live, formatNumber}
 use Rattle.card.specs.Sound.{judged}
 use Rattle.batch.specs.Batch.{Update, updates, anyUpdate, applied, batchNumber}
-use Rattle.update.specs.Span.{writeSpan}
+use Rattle.span.specs.Span.{writeSpan}
 use Rattle.update.specs.Step.{withWrite, remains, stepNumber, step}
 use Rattle.update.specs.Pass.{stepLimit, finishesWithin, refusedWithin}
 use Rattle.found.specs.Found.{questionNumber, blocksRead, holders, lookup}

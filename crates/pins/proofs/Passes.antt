@@ -14,7 +14,7 @@ use Rattle.block.specs.Block.{fitting}
 use Rattle.card.specs.Layout.{blockSize, placeCount, oldLength, newLength, boundary, live, widthOf, oldStart, duePlace}
 use Rattle.card.specs.Sound.{judged}
 use Rattle.batch.specs.Batch.{updates, anyUpdate, applied, batchNumber}
-use Rattle.update.specs.Span.{writeSpan}
+use Rattle.span.specs.Span.{writeSpan}
 use Rattle.update.specs.Step.{remains, stepNumber, step}
 use Rattle.update.specs.Pass.{blocks, stepLimit, finishesWithin, refusedWithin}
 use Rattle.history.specs.History.{Event, stepped, cut, looked, restarted, formats, after}

@@ -1,5 +1,4 @@
 pub mod Answer
 pub mod Pass
-pub mod Span
 pub mod Step
 pub mod code

@@ -8,7 +8,6 @@ ghost use Rattle.card.specs.Layout.{blockSize};
 ghost use Rattle.card.specs.Sound.{judged};
 ghost use Rattle.card.specs.code.Configuration.{put, Ordered};
 ghost use Rattle.batch.specs.Batch.{batchNumber};
-ghost use Rattle.update.specs.Span.{writeSpan};
 ghost use Rattle.update.specs.Step.{step};
 ghost use Rattle.update.specs.Answer.{numberOf, writeOf, freedOf, finishedOf, answerOf};
 ghost use Rattle.update.specs.code.Plan.{Freed, followed, settling, Planned};
@@ -256,53 +255,4 @@ pub fn step(card: &mut [u32], batch: &[u32]) -> StepAnswer
     let size = k.size as usize;
     let mut buffer = [0u32; WORDS_MOST];
     advance(card, batch, &mut buffer[..size])
-}
-
-// The number of a card that is refused; where in the card a write stands and how many words it has.
-pub struct WriteSpan {
-    pub number: u32,
-    pub start: usize,
-    pub count: usize,
-}
-
-// Where a write of a step stands in the card that the step left; no words for a write that is none of the three, nor where the card is refused.
-pub fn write_span(card: &[u32], write: u32) -> WriteSpan
-    ensures { λ r. ⌜ r ≡ writeSpan (now (card .entry)) write ⌝ }
-{
-    let judged = judge::judge(card);
-    if judged != 0 {
-        return WriteSpan {
-            number: judged,
-            start: 0,
-            count: 0,
-        };
-    }
-    let k = Configuration::of(card);
-    let place = k.due_place();
-    if write == 1 {
-        return WriteSpan {
-            number: 0,
-            start: layout::place_start(card, place),
-            count: k.size as usize,
-        };
-    }
-    if write == 2 {
-        return WriteSpan {
-            number: 0,
-            start: layout::entry_start(card, place),
-            count: layout::width_of(k.format) as usize,
-        };
-    }
-    if write == 3 {
-        return WriteSpan {
-            number: 0,
-            start: 0,
-            count: CONFIGURATION_WORDS,
-        };
-    }
-    WriteSpan {
-        number: 0,
-        start: 0,
-        count: 0,
-    }
 }

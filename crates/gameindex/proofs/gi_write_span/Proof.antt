@@ -1,6 +1,6 @@
--- `gameindex::gi_write_span` meets its contract: the numbers are the fields of what `update::write_span` gives.
+-- `gameindex::gi_write_span` meets its contract: the numbers are the fields of what `span::write_span` gives.
 use mathlib.Core.Path.{ap}
-use Rattle.update.specs.declared.WriteSpan.{WriteSpan}
+use Rattle.span.specs.declared.WriteSpan.{WriteSpan}
 use borrow.Author.Needs.{needs}
 use Rattle.gameindex.proofs.gi_write_span.Statement.{statement}
 use Rattle.gameindex.proofs.gi_write_span.Tie as tie

@@ -5,7 +5,7 @@ use mathlib.Core.List.{List}
 use lib.Dec.{eqb}
 use Rattle.card.specs.Layout.{configurationWords, blockSize, entryWidth, entryAt, placeAt, duePlace}
 use Rattle.card.specs.Sound.{judged}
-use Rattle.update.specs.declared.WriteSpan.{WriteSpan}
+use Rattle.span.specs.declared.WriteSpan.{WriteSpan}
 
 -- a number, and count words of the card from the word at start on
 abbrev span : ℕ → ℕ → ℕ → WriteSpan

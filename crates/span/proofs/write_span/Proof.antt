@@ -1,4 +1,4 @@
--- `update::write_span` meets its contract: each return is one case of the definition.
+-- `span::write_span` meets its contract: each return is one case of the definition.
 use Rattle.card.specs.Layout.{duePlace}
 use Prim.Native.Nat.{ℕ}
 use mathlib.Core.Path.{_≡_, sym, _∙_}
@@ -9,10 +9,10 @@ use Rattle.card.specs.Sound.{judged}
 use Rattle.card.specs.code.Configuration.{Ordered}
 use Rattle.card.proofs.Facts.{facts}
 use Rattle.card.proofs.Ordered.{ordered-sound, due-place-on}
-use Rattle.update.specs.Span.{writeSpan}
+use Rattle.span.specs.Span.{writeSpan}
 use borrow.Author.Needs.{needs}
-use Rattle.update.proofs.write_span.Statement.{statement}
-use Rattle.update.proofs.write_span.Tie as tie
+use Rattle.span.proofs.write_span.Statement.{statement}
+use Rattle.span.proofs.write_span.Tie as tie
 
 -- the card, once it is sound, and its configuration
 abbrev W : tie.Else1 → List ℕ
