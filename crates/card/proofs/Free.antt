@@ -47,52 +47,43 @@ places-distinct c f =
     rw (← around-more n (oldStart c + oldLength c) (newLength c), ← around-add n (oldStart c) (oldLength c) (newLength c + 1))
     (around-distinct n (oldStart c) (oldLength c + (newLength c + 1)) (omega (arith, f .room)))
 
--- Words written in a free place leave the card alike.
-pub alike-place : (c ws : List ℕ) (i : ℕ) → Free c i → length ws ≤ blockSize c → Alike c (sets c (placeAt c i) ws)
-unfolding place
-alike-place c ws i f h =
+-- A write behind the configuration words that leaves every other place as it is leaves the card alike.
+alike-sets :
+    (c ws : List ℕ) (i at : ℕ) → Free c i → 8 ≤ at → ((j : ℕ) → Apart c i j → SameAt c (sets c at ws) j) → Alike c (sets c at ws)
+alike-sets c ws i at f h same =
     record {
       long = length-sets c at ws;
       head = part-sets-before ws c 8 0 at (omega arith);
       new = Each-imply (Apart c i) _ same (newPlaces c) (f .new);
       old = Each-imply (Apart c i) _ same (oldPlaces c) (f .old);
     }
-  where
-    at : ℕ
-    at = placeAt c i
 
-    same : (j : ℕ) → Apart c i j → SameAt c (sets c at ws) j
-    same j a =
-        record {
-          block =
-              rw (word-sets-before ws c at 0 (omega arith), word-sets-before ws c at 1 (omega arith), word-sets-before ws c at 2 (omega arith))
-              (part-sets-row ws c (blockSize c) (8 + entryWidth c * placeCount c) j i _ _ (a .1) h refl refl);
-          mapped =
-              rw (word-sets-before ws c at 0 (omega arith))
-              (part-sets-before ws c (entryWidth c) (entryAt c j) at (omega (arith, mul-le-mul-left {m = suc j} (entryWidth c) (a .0))));
-        }
+-- Words written in a free place leave the card alike.
+pub alike-place : (c ws : List ℕ) (i : ℕ) → Free c i → length ws ≤ blockSize c → Alike c (sets c (placeAt c i) ws)
+unfolding place
+alike-place c ws i f h =
+    let at = placeAt c i in
+    alike-sets c ws i at f (omega arith) (λ j a.
+    record {
+      block =
+          rw (word-sets-before ws c at 0 (omega arith), word-sets-before ws c at 1 (omega arith), word-sets-before ws c at 2 (omega arith))
+          (part-sets-row ws c (blockSize c) (8 + entryWidth c * placeCount c) j i _ _ (a .1) h refl refl);
+      mapped =
+          rw (word-sets-before ws c at 0 (omega arith))
+          (part-sets-before ws c (entryWidth c) (entryAt c j) at (omega (arith, mul-le-mul-left {m = suc j} (entryWidth c) (a .0))));
+    })
 
 -- Words written in its map entry do too.
 pub alike-entry : (c ws : List ℕ) (i : ℕ) → Free c i → length ws ≤ entryWidth c → Alike c (sets c (entryAt c i) ws)
 unfolding place
 alike-entry c ws i f h =
+    let at = entryAt c i in
+    alike-sets c ws i at f (omega arith) (λ j a.
     record {
-      long = length-sets c at ws;
-      head = part-sets-before ws c 8 0 at (omega arith);
-      new = Each-imply (Apart c i) _ same (newPlaces c) (f .new);
-      old = Each-imply (Apart c i) _ same (oldPlaces c) (f .old);
-    }
-  where
-    at : ℕ
-    at = entryAt c i
-
-    same : (j : ℕ) → Apart c i j → SameAt c (sets c at ws) j
-    same j a =
-        record {
-          block =
-              rw (word-sets-before ws c at 0 (omega arith), word-sets-before ws c at 1 (omega arith), word-sets-before ws c at 2 (omega arith))
-              (ap (take (blockSize c)) (part-sets-after ws c (placeAt c j) at (omega (arith, h, mul-le-mul-left {m = suc i} (entryWidth c) (f .inside)))));
-          mapped =
-              rw (word-sets-before ws c at 0 (omega arith))
-              (part-sets-row ws c (entryWidth c) 8 j i (entryAt c j) at (a .1) h (omega arith) (omega arith));
-        }
+      block =
+          rw (word-sets-before ws c at 0 (omega arith), word-sets-before ws c at 1 (omega arith), word-sets-before ws c at 2 (omega arith))
+          (ap (take (blockSize c)) (part-sets-after ws c (placeAt c j) at (omega (arith, h, mul-le-mul-left {m = suc i} (entryWidth c) (f .inside)))));
+      mapped =
+          rw (word-sets-before ws c at 0 (omega arith))
+          (part-sets-row ws c (entryWidth c) 8 j i (entryAt c j) at (a .1) h (omega arith) (omega arith));
+    })

@@ -1,7 +1,7 @@
 // The card: 8 configuration words, the map, the places. The formatter, and the number of a configuration.
 ghost use mathlib.Core.Path.{_≡_};
 ghost use mathlib.Core.Bool.{cond, _&&_};
-ghost use Prim.Native.Nat.{_≤_, _<_};
+ghost use Prim.Native.Nat.{_≤_};
 ghost use lib.Dec.{ltb, eqb};
 ghost use Rattle.pair.specs.Tests.{firstOf};
 ghost use Rattle.block.specs.Block.{blockSizeMost};
