@@ -30,7 +30,8 @@ enum {
     GI_BATCH_ORDER = 7,        /* the records are not in order of term, then from */
     GI_CARD_FULL = 8,          /* the step would leave no place free */
     GI_LOOKUP_RANGE = 9,       /* term or from is 0, or from is above to */
-    GI_LOOKUP_ANSWER = 10      /* fewer answer words than positions */
+    GI_LOOKUP_ANSWER = 10,     /* fewer answer words than positions */
+    GI_PAGE_MEMORY = 11        /* the page memory is shorter than the page */
 };
 
 /* The limits of a card. */
@@ -60,6 +61,9 @@ enum {
     GI_WRITE_CONFIGURATION = 3 /* configuration words; they are written as one */
 };
 
+/* A bulletin page: lines of 65 bytes and a line feed, five positions to a line. */
+enum { GI_PAGE_LINE_BYTES = 66, GI_PAGE_LINE_POSITIONS = 5 };
+
 /* The range of all positions, and of all terms. */
 #define GI_LOWEST ((uint32_t)1)
 #define GI_HIGHEST UINT32_MAX
@@ -80,6 +84,12 @@ enum {
  * within their limits. */
 static inline size_t gi_card_words(uint32_t b, uint32_t n) {
     return (size_t)GI_CONFIG_WORDS + (size_t)GI_MAP_ENTRY_WORDS * n + (size_t)n * b;
+}
+
+/* The bytes that a page of so many positions has. */
+static inline size_t gi_page_bytes(size_t positions) {
+    size_t lines = positions / GI_PAGE_LINE_POSITIONS + (positions % GI_PAGE_LINE_POSITIONS != 0);
+    return lines * GI_PAGE_LINE_BYTES;
 }
 
 /* Makes an empty index: writes the 8 configuration words and no other word.
@@ -163,6 +173,21 @@ uint32_t gi_read(const uint32_t *card, size_t card_len, uint32_t term, uint32_t 
  * nothing to the card. */
 uint32_t gi_run_view(const uint32_t *card, size_t card_len, uint32_t term, uint32_t from, uint32_t to, size_t *start,
                      size_t *found);
+
+/* Writes the positions of gi_lookup's question as a page of text into the first
+ * bytes of the page memory, and the number of lines behind lines. A line is 65
+ * bytes and a line feed: the term right-aligned in 10 columns, in the first line
+ * only, then five fields of one blank and a position right-aligned in 10 columns.
+ * What is absent is blanks: the term of later lines, and fields behind the last
+ * position. No positions give no lines. Bytes after the page are left as they
+ * are; there is no zero byte at its end.
+ *
+ * Gives the judge's number for a card that is not sound; then 9 as the lookup
+ * does; then 11 where page_len, in bytes, is less than the lines need. After a
+ * refusal lines is 0 and no byte has changed. Gives 0 otherwise. Writes nothing
+ * to the card. A memory of gi_page_bytes(card_len) bytes is never too short. */
+uint32_t gi_page(const uint32_t *card, size_t card_len, uint32_t term, uint32_t from, uint32_t to, uint8_t *page,
+                 size_t page_len, uint32_t *lines);
 
 #ifdef __cplusplus
 }
