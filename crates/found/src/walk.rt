@@ -1,5 +1,9 @@
 // A walk over the blocks that a lookup reads: it finds one run of wanted positions after another, each a part of the card.
-ghost use Rattle.found.specs.code.Walk.{PlacePart, Sought, WalkStarted, Next};
+ghost use mathlib.Core.Path.{_≡_};
+ghost use Prim.Native.Nat.{_<_};
+ghost use lib.ListN.{length};
+ghost use Rattle.pair.specs.Rank.{wordLimit};
+ghost use Rattle.found.specs.code.Walk.{PlacePart, Sought, ahead, ReadyWalk, WalkStarted, WalkCounted, Next};
 use crate::map::opened;
 use crate::question_number;
 use card::layout;
@@ -25,6 +29,12 @@ pub struct Walk {
 pub struct WalkStart {
     pub number: u32,
     pub walk: Walk,
+}
+
+// A walk at its start, and how many wanted positions are ahead of it.
+pub struct WalkCount {
+    pub start: WalkStart,
+    pub count: usize,
 }
 
 // The wanted positions of the first block of a stretch that has any, as a part of the card, and the blocks behind it.
@@ -158,4 +168,33 @@ pub fn next_run(card: &[u32], w: Walk) -> WalkRun
             old: old_rest,
         },
     }
+}
+
+// How many wanted positions are ahead of a walk.
+fn count_ahead(card: &[u32], walk: Walk) -> usize
+    requires { ⌜ ReadyWalk (now card) walk ⌝ }
+    requires { ⌜ length (ahead (now card) walk) < wordLimit ⌝ }
+    ensures { λ r. ⌜ r ≡ length (ahead (now (card .entry)) walk) ⌝ }
+{
+    let mut w = walk;
+    let mut count: usize = 0;
+    loop {
+        let run = next_run(card, w);
+        let len = run.len;
+        if len == 0 {
+            return count;
+        }
+        count += len;
+        let rest = run.rest;
+        w = rest;
+    }
+}
+
+// Starts a walk and counts what is ahead of it.
+pub fn start_counted(card: &[u32], term: u32, from: u32, to: u32) -> WalkCount
+    ensures { λ r. ⌜ WalkCounted (now (card .entry)) term from to r ⌝ }
+{
+    let start = start_walk(card, term, from, to);
+    let count = count_ahead(card, start.walk);
+    WalkCount { start, count }
 }

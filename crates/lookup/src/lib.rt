@@ -6,13 +6,13 @@ ghost use Rattle.found.specs.Found.{questionNumber, lookup};
 ghost use Rattle.found.specs.Views.{run, runStart, Viewed};
 ghost use Rattle.lookup.specs.Answer.{answerOf};
 use crate::taking::copy_ahead;
-use crate::taking::count_ahead;
 use found::question_number;
 use found::walk::next_run;
+use found::walk::start_counted;
 use found::walk::start_walk;
 use pair::Pair;
 
-mod taking; // the wanted positions of a walk counted, and moved to answer words
+mod taking; // the wanted positions of a walk moved to answer words
 
 // The number of a lookup with fewer answer words than positions.
 const TOO_FEW_WORDS: u32 = 10;
@@ -27,13 +27,14 @@ pub enum LookupAnswer {
 pub fn lookup(card: &[u32], term: u32, from: u32, to: u32, answer: &mut [u32]) -> LookupAnswer
     ensures { λ r. ⌜ (r ≡ answerOf (lookup (now (card .entry)) term from to (now (answer .entry)))) × (now (answer .exit) ≡ lookup (now (card .entry)) term from to (now (answer .entry)) .answer) ⌝ }
 {
-    let start = start_walk(card, term, from, to);
+    let counted = start_counted(card, term, from, to);
+    let start = counted.start;
+    let count = counted.count;
     let number = start.number;
     if number != 0 {
         return LookupAnswer::Refused(number);
     }
     let walk = start.walk;
-    let count = count_ahead(card, walk);
     if answer.len() < count {
         return LookupAnswer::Refused(TOO_FEW_WORDS);
     }

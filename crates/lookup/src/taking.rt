@@ -1,32 +1,11 @@
-// The wanted positions ahead of a walk: counted, and moved to answer words.
+// The wanted positions ahead of a walk moved to answer words.
 ghost use mathlib.Core.Path.{_≡_};
-ghost use Prim.Native.Nat.{_+_, _<_, _≤_};
+ghost use Prim.Native.Nat.{_+_, _≤_};
 ghost use lib.ListN.{length, take, drop};
 ghost use lib.Seq.{sets};
-ghost use Rattle.pair.specs.Rank.{wordLimit};
 ghost use Rattle.found.specs.code.Walk.{ahead, ReadyWalk};
 use found::walk::Walk;
 use found::walk::next_run;
-
-// How many wanted positions are ahead.
-pub(crate) fn count_ahead(card: &[u32], walk: Walk) -> usize
-    requires { ⌜ ReadyWalk (now card) walk ⌝ }
-    requires { ⌜ length (ahead (now card) walk) < wordLimit ⌝ }
-    ensures { λ r. ⌜ r ≡ length (ahead (now (card .entry)) walk) ⌝ }
-{
-    let mut w = walk;
-    let mut count: usize = 0;
-    loop {
-        let run = next_run(card, w);
-        let len = run.len;
-        if len == 0 {
-            return count;
-        }
-        count += len;
-        let rest = run.rest;
-        w = rest;
-    }
-}
 
 // Moves a part of the card to answer words.
 fn copy_part(card: &[u32], start: usize, len: usize, answer: &mut [u32], at: usize)

@@ -8,14 +8,15 @@ use lib.ListN.{length, take, drop, getD}
 use lib.Seq.{drop-cons}
 use Rattle.found.specs.declared.walk.Walk.{Walk}
 use Rattle.found.specs.declared.walk.WalkStart.{WalkStart}
+use Rattle.found.specs.declared.walk.WalkCount.{WalkCount}
 use Rattle.found.specs.declared.walk.WalkRun.{WalkRun}
 use Rattle.found.specs.Found.{questionNumber}
-use Rattle.found.specs.code.Walk.{ahead, WalkStarted, Next}
+use Rattle.found.specs.code.Walk.{ahead, WalkStarted, WalkCounted, Next}
 use Rattle.reader.specs.declared.Yield.the-variants.{Posting, End}
 use Rattle.reader.specs.declared.cursor.Cursor.{Cursor}
 use Rattle.reader.specs.declared.cursor.Step.{Step}
 use Rattle.reader.specs.Reader.{allYielded, posting, ended, yielded, yieldOf}
-use Rattle.reader.specs.code.Cursor.{CursorAfter, OfCard, CursorStep, Later}
+use Rattle.reader.specs.code.Cursor.{CursorAfter, CursorCounted, OfCard, CursorStep, Later}
 
 -- a reader that is opened
 pub opened-reader :
@@ -23,6 +24,20 @@ pub opened-reader :
     (r .number ≡ questionNumber c t a z) × CursorAfter c t a z 0 (record { at = 0; left = 0; walk = r .walk })
 unfolding allYielded
 opened-reader s = (s .number, record { inside = zero-le; ready = s .ready; rest = s .wanted })
+
+-- the same with what is ahead counted
+pub counted-reader :
+    {c : List ℕ} {t a z : ℕ} {r : WalkCount} → WalkCounted c t a z r →
+    CursorCounted c t a z (record { number = r .start .number; count = r .count; cursor = record { at = 0; left = 0; walk = r .start .walk } })
+unfolding allYielded
+counted-reader {c} {t} {a} {z} {r} s =
+    let o = opened-reader (s .started) in
+    record {
+      number = o .0;
+      counted = s .counted ∙ ap length (s .started .wanted);
+      few = rw (s .counted) (s .started .few);
+      after = o .1;
+    }
 
 -- what is yielded, by what is left
 yields-head : (ys : List ℕ) (n x : ℕ) (xs : List ℕ) → x ∷ xs ≡ drop n ys → (getD (map posting ys) n ended ≡ posting x) × (xs ≡ drop (suc n) ys)

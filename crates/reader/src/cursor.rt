@@ -2,10 +2,11 @@
 ghost use mathlib.Core.Path.{_≡_};
 ghost use Prim.Native.Nat.{ℕ};
 ghost use Rattle.found.specs.Found.{questionNumber};
-ghost use Rattle.reader.specs.code.Cursor.{CursorAfter, CursorStep, Later};
+ghost use Rattle.reader.specs.code.Cursor.{CursorAfter, CursorStep, CursorCounted, Later};
 use crate::Yield;
 use found::walk::Walk;
 use found::walk::next_run;
+use found::walk::start_counted;
 use found::walk::start_walk;
 
 // A place in a card: the postings that are left of a run, and the walk behind it. Only this crate makes one.
@@ -21,10 +22,17 @@ pub(crate) struct Opening {
     pub(crate) cursor: Cursor,
 }
 
+// The same, and how many postings there are.
+pub struct Counted {
+    pub number: u32,
+    pub count: usize,
+    pub cursor: Cursor,
+}
+
 // What is yielded at a cursor, and the cursor behind it.
-pub(crate) struct Step {
-    pub(crate) yielded: Yield,
-    pub(crate) cursor: Cursor,
+pub struct Step {
+    pub yielded: Yield,
+    pub cursor: Cursor,
 }
 
 // Judges the card and the question. Refused, nothing is before the cursor.
@@ -36,6 +44,25 @@ pub(crate) fn open_at(card: &[u32], term: u32, from: u32, to: u32) -> Opening
     let walk = start.walk;
     Opening {
         number,
+        cursor: Cursor {
+            at: 0,
+            left: 0,
+            walk,
+        },
+    }
+}
+
+// Judges the card and the question, and counts the postings before the cursor. Refused, there are none.
+pub fn open_counted(card: &[u32], term: u32, from: u32, to: u32) -> Counted
+    ensures { λ r. ⌜ CursorCounted (now (card .entry)) term from to r ⌝ }
+{
+    let counted = start_counted(card, term, from, to);
+    let start = counted.start;
+    let number = start.number;
+    let walk = start.walk;
+    Counted {
+        number,
+        count: counted.count,
         cursor: Cursor {
             at: 0,
             left: 0,
@@ -73,7 +100,7 @@ fn step_over(card: &[u32], walk: Walk) -> Step
 }
 
 // One posting, or the end; nothing is judged.
-pub(crate) fn step_at(card: &[u32], cursor: Cursor) -> Step
+pub fn step_at(card: &[u32], cursor: Cursor) -> Step
     ensures { λ r. ⌜ CursorStep (now (card .entry)) cursor r ⌝ }
 {
     let at = cursor.at;

@@ -16,6 +16,7 @@ use Rattle.found.specs.declared.walk.Stretch.{Stretch}
 use Rattle.found.specs.declared.walk.Walk.{Walk}
 use Rattle.found.specs.declared.walk.StretchRun.{StretchRun}
 use Rattle.found.specs.declared.walk.WalkStart.{WalkStart}
+use Rattle.found.specs.declared.walk.WalkCount.{WalkCount}
 use Rattle.found.specs.declared.walk.WalkRun.{WalkRun}
 use Rattle.found.specs.Found.{found, questionNumber, blocksRead}
 use Rattle.found.specs.Views.{run, runStart}
@@ -104,6 +105,11 @@ pub record WalkStarted (c : List ℕ) (t a z : ℕ) (r : WalkStart) : Type 0 whe
   pub blocks : blocksOf (r .walk) ≡ cond (eqb (questionNumber c t a z) 0) (blocksRead c t a z) 0
   pub run : nextRun c (r .walk) ≡ run c t a z
   pub start : nextStart c (r .walk) ≡ runStart c t a z
+
+-- the same with the count of what is ahead of it
+pub record WalkCounted (c : List ℕ) (t a z : ℕ) (r : WalkCount) : Type 0 where
+  pub started : WalkStarted c t a z (r .start)
+  pub counted : r .count ≡ length (ahead c (r .start .walk))
 
 -- the next run of a walk: a part of the card with fewer blocks behind it, none behind an empty one; of a walk over live blocks it is the next run,
 -- and what was ahead is the run and what is ahead behind it

@@ -4,19 +4,16 @@ use borrow.Author.Needs.{needs}
 use Rattle.lookup.proofs.lookup.Statement.{statement}
 use Rattle.lookup.proofs.lookup.Tie as tie
 
-start-walk-requires : tie.Need-start-walk-requires
-start-walk-requires c κs = search needs
+start-counted-requires : tie.Need-start-counted-requires
+start-counted-requires c κs = search needs
 
 returns : tie.Need-returns
-returns c = answered-refused _ _ _ _ _ (c .before .start-walk .ensures .number) (c .if1 .taken)
-
-count-ahead-requires : tie.Need-count-ahead-requires
-count-ahead-requires c κs = let w = c .before .before .start-walk .ensures in (w .ready, w .few)
+returns c = answered-refused _ _ _ _ _ (c .before .before .start-counted .ensures .started .number) (c .if1 .taken)
 
 returns-2 : tie.Need-returns-2
-returns-2 c = let n = c .before in
-    let e = n .before .before in
-    answered-short _ _ _ _ _ (e .before .start-walk .ensures) (e .if1 .left) (n .count-ahead .ensures) (c .if2 .taken)
+returns-2 c = let e = c .before .before in
+    let w = e .before .before .start-counted .ensures in
+    answered-short _ _ _ _ _ (w .started) (e .if1 .left) (w .counted) (c .if2 .taken)
 
 copy-ahead-requires : tie.Need-copy-ahead-requires
 copy-ahead-requires c κs = search needs
@@ -38,17 +35,16 @@ same-length c = search needs
 
 returns-3 : tie.Need-returns-3
 returns-3 c = let m = c .before .before .before .before .before .before in
-    let n = m .before .before .before in
-    let e = n .before .before in
-    answered-found _ _ _ _ _ (e .before .start-walk .ensures) (e .if1 .left) (n .count-ahead .ensures) (m .before .before .if2 .left) (m .copy-ahead .ensures)
+    let e = m .before .before .before .before in
+    let w = e .before .before .start-counted .ensures in
+    answered-found _ _ _ _ _ (w .started) (e .if1 .left) (w .counted) (m .before .before .if2 .left) (m .copy-ahead .ensures)
 
 pub lookup-spec : {M : Type 1} → statement M
 lookup-spec =
     tie.close
     (tie.spec
-    start-walk-requires
+    start-counted-requires
     returns
-    count-ahead-requires
     returns-2
     copy-ahead-requires
     cast-found

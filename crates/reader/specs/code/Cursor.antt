@@ -3,9 +3,12 @@ use Prim.Native.Nat.{ℕ, _+_, _≤_, _<_}
 use mathlib.Core.Path.{_≡_}
 use mathlib.Core.List.{List, _++_}
 use lib.ListN.{length, take, drop, getD}
+use Rattle.pair.specs.Rank.{wordLimit}
+use Rattle.found.specs.Found.{questionNumber}
 use Rattle.found.specs.code.Walk.{ahead, ReadyWalk}
 use Rattle.reader.specs.declared.Yield.{Yield}
 use Rattle.reader.specs.declared.cursor.Cursor.{Cursor}
+use Rattle.reader.specs.declared.cursor.Counted.{Counted}
 use Rattle.reader.specs.declared.cursor.Step.{Step}
 use Rattle.reader.specs.Reader.{allYielded, Yielded, posting, ended, yielded, yieldOf}
 
@@ -15,6 +18,13 @@ pub record CursorAfter (c : List ℕ) (t a z n : ℕ) (k : Cursor) : Type 0 wher
   pub inside : k .at + k .left ≤ length c
   pub ready : ReadyWalk c (k .walk)
   pub rest : take (k .left) (drop (k .at) c) ++ ahead c (k .walk) ≡ drop n (allYielded c t a z)
+
+-- the number of a question, the count of all that a reader of it yields, and the cursor before that
+pub record CursorCounted (c : List ℕ) (t a z : ℕ) (r : Counted) : Type 0 where
+  pub number : r .number ≡ questionNumber c t a z
+  pub counted : r .count ≡ length (allYielded c t a z)
+  pub few : r .count < wordLimit
+  pub after : CursorAfter c t a z 0 (r .cursor)
 
 -- p is a word of the card
 pub record WordOf (c : List ℕ) (p : ℕ) : Type 0 where

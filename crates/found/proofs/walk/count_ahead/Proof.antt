@@ -1,10 +1,10 @@
--- `lookup::taking::count_ahead` meets its contract. The invariant: the positions counted and those ahead are all.
+-- `found::walk::count_ahead` meets its contract. The invariant: the positions counted and those ahead are all.
 use native.Mathlib.Omega.{arith}
 use Rattle.found.specs.code.Walk.{blocksOf}
-use Rattle.lookup.proofs.Gathering.{Counting, counting-start, counting-turn, counting-end}
+use Rattle.found.proofs.Counting.{Counting, counting-start, counting-turn, counting-end}
 use borrow.Author.Needs.{needs}
-use Rattle.lookup.proofs.taking.count_ahead.Statement.{statement}
-use Rattle.lookup.proofs.taking.count_ahead.Tie as tie
+use Rattle.found.proofs.walk.count_ahead.Statement.{statement}
+use Rattle.found.proofs.walk.count_ahead.Tie as tie
 
 abbrev Inv-loop : tie.InvT-loop
 Inv-loop card w₀ count₀ w count = Counting card w₀ w count

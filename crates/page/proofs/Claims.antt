@@ -1,0 +1,40 @@
+-- The claims of a page.
+use Prim.Native.Nat.{ℕ, _+_, _*_, _≤_, _<_}
+use native.Mathlib.Omega.{arith}
+use mathlib.Core.Path.{_≡_, refl, sym, ap, _∙_}
+use mathlib.Core.List.{List}
+use lib.ListN.{length, take, drop}
+use lib.Seq.{sets}
+use Rattle.pair.specs.Rank.{wordLimit, Words}
+use Rattle.card.proofs.Parts.{part-sets-same, part-sets-after}
+use Rattle.found.specs.Found.{found}
+use Rattle.page.specs.Page.{lineCount, page, pageNumber, printed}
+use Rattle.page.specs.ReadBack.{positionsIn, termIn, lineFeedsIn}
+use Rattle.page.specs.Claims.{NumbersFit, PageReadBack, PagesDiffer}
+use Rattle.page.proofs.Figures.{decimal-few}
+use Rattle.page.proofs.ReadBack.{page-length, page-positions, page-term, page-feeds}
+use Rattle.page.proofs.Printing.{found-words, printed-done, printed-number, page-room}
+
+pub numbersFit : NumbersFit
+unfolding NumbersFit
+numbersFit = decimal-few
+
+pub pageReadBack : PageReadBack
+unfolding PageReadBack
+pageReadBack c t a z memory ht e =
+    let ps = found c t a z in
+    let text = page t ps in
+    let ws : Words ps = found-words c t a z in
+    let n : pageNumber c t a z memory ≡ 0 = sym (printed-number c t a z memory) ∙ e in
+    let room = page-room c t a z memory n in
+    let size : length text ≡ 66 * lineCount ps = page-length t ps ht ws in
+    let read : take (66 * lineCount ps) (sets memory 0 text) ≡ text = rw size at (part-sets-same text memory 0 (omega arith)) in
+    rw (printed-done c t a z memory n, read)
+    (page-positions t ps ht ws, page-term t ps ht ws, page-feeds t ps, part-sets-after text memory (66 * lineCount ps) 0 (omega arith))
+
+pub pagesDiffer : PagesDiffer
+unfolding PagesDiffer
+pagesDiffer t u ps qs ht hu ws vs l e =
+    let same : ps ≡ qs = sym (page-positions t ps ht ws) ∙ ap positionsIn e ∙ page-positions u qs hu vs in
+    let l′ : 0 < length qs = rw same at l in
+    (sym (page-term t ps ht ws l) ∙ ap termIn e ∙ page-term u qs hu vs l′, same)

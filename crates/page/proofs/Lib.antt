@@ -1,0 +1,5 @@
+pub mod Claims
+pub mod Figures
+pub mod Joining
+pub mod Printing
+pub mod ReadBack
