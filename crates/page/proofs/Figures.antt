@@ -46,9 +46,9 @@ pub leading-none : (n : ℕ) → n ≡ 0 → leading n ≡ []
 unfolding leading
 leading-none n e = rw (eq-eqb n 0 e)
 
-pub leading-some : (n : ℕ) → 0 < n → leading n ≡ decimal n
+pub leading-some : (n : ℕ) → (n ≡ 0 → ⊥) → leading n ≡ decimal n
 unfolding leading
-leading-some n l = rw (ne-eqb n 0 (λ e. omega arith))
+leading-some n h = rw (ne-eqb n 0 h)
 
 -- below the k-th power of ten there are at most k figures
 pub leading-few : (k n : ℕ) → n < 10 ^ k → length (leading n) ≤ k
@@ -57,7 +57,7 @@ leading-few (suc k) zero h = rw (leading-none 0 refl) zero-le
 leading-few (suc k) (suc n) h =
     let m = suc n in
     let less : m / 10 < 10 ^ k = omega arith in
-    rw (leading-some m (omega arith), decimal-last m, length-append (leading (m / 10))) (omega (arith, leading-few k (m / 10) less))
+    rw (leading-some m (λ z. omega arith), decimal-last m, length-append (leading (m / 10))) (omega (arith, leading-few k (m / 10) less))
 
 -- a word has at most ten figures
 pub decimal-few : (n : ℕ) → n < wordLimit → length (decimal n) ≤ columnWidth

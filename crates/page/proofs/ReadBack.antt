@@ -87,7 +87,7 @@ unfolding page
 page-feeds t ps = feeds-joined (line t ps) 1 (lineCount ps) (line-feeds t ps) ∙ omega arith
 
 module _ (t : ℕ) (ps : List ℕ) (ht : t < wordLimit) (hs : Words ps) where
-  fields-length : (i : ℕ) → length (fields ps i) ≡ 55
+  pub fields-length : (i : ℕ) → length (fields ps i) ≡ 55
   fields-length i = joined-length (λ j. field ps (5 * i + j)) 11 5 (λ j l. field-length ps (5 * i + j) hs)
 
   pub line-length : (i : ℕ) → length (line t ps i) ≡ 66

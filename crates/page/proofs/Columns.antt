@@ -1,0 +1,121 @@
+-- Blanks and columns, written byte by byte.
+use Prim.Native.Nat.{ℕ, zero, suc, _+_, _-_, _/_, _%_, _^_, _≤_, _<_, zero-le}
+use native.Mathlib.Numerals.{add-one}
+use native.Mathlib.Omega.{arith}
+use mathlib.Core.Path.{_≡_, refl, sym, ap, _∙_}
+use mathlib.Core.List.{List, [], _∷_, _++_, append-assoc, append-nil}
+use lib.ListN.{length, replicate, set, length-replicate, length-set, replicate-append-replicate}
+use lib.Seq.{sets, set-comm, length-sets}
+use Rattle.pair.specs.Rank.{wordLimit}
+use Rattle.card.proofs.Parts.{sets-append}
+use Rattle.page.specs.Figures.{blank, figure, decimal, column}
+use Rattle.page.specs.code.Putting.{leading}
+use Rattle.page.proofs.Figures.{decimal-last, leading-none, leading-some}
+
+-- a byte before others may be written first
+set-sets : (vs l : List ℕ) (q p a : ℕ) → p < q → set (sets l q vs) p a ≡ sets (set l p a) q vs
+set-sets [] l q p a h = refl
+set-sets (v ∷ vs) l q p a h =
+    set-sets vs (set l q v) (suc q) p a (omega arith) ∙ ap (λ k. sets k (suc q) vs) (set-comm l q p v a (λ e. omega arith))
+
+-- and so may bytes
+sets-sets : (us vs l : List ℕ) (p q : ℕ) → p + length us ≤ q → sets (sets l q vs) p us ≡ sets (sets l p us) q vs
+sets-sets [] vs l p q h = refl
+sets-sets (u ∷ us) vs l p q h = rw (set-sets vs l q p u (omega arith)) (sets-sets us vs (set l p u) (suc p) q (omega arith))
+
+-- j of count blanks are written
+pub record Blanking (l : List ℕ) (at count : ℕ) (now : List ℕ) (j : ℕ) : Type 0 where
+  pub within : j ≤ count
+  pub same : now ≡ sets l at (replicate j blank)
+
+pub blanking-start : (l : List ℕ) (at count : ℕ) → Blanking l at count l 0
+blanking-start l at count = record { within = zero-le; same = refl }
+
+pub blanking-length : {l now : List ℕ} {at count j : ℕ} → Blanking l at count now j → length now ≡ length l
+blanking-length {l} {now} {at} {count} {j} b = ap length (b .same) ∙ length-sets l at (replicate j blank)
+
+pub blanking-turn : {l now : List ℕ} {at count j : ℕ} → Blanking l at count now j → j < count → Blanking l at count (set now (at + j) blank) (j + 1)
+blanking-turn {l} {now} {at} {count} {j} b h =
+    record {
+      within = omega arith;
+      same =
+          ap (λ k. set k (at + j) blank) (b .same)
+          ∙ ap (λ i. set (sets l at (replicate j blank)) (at + i) blank) (sym (length-replicate j blank))
+          ∙ sym (sets-append (replicate j blank) (blank ∷ []) l at)
+          ∙ ap (sets l at) (replicate-append-replicate j 1 blank);
+    }
+
+pub blanking-end : {l now : List ℕ} {at count j : ℕ} → Blanking l at count now j → count ≤ j → now ≡ sets l at (replicate count blank)
+blanking-end {count = count} {j} b h = let e : count ≡ j = omega (arith, b .within) in rw e (b .same)
+
+-- the last figures of n are written, those of rest are not
+pub record Figuring (l : List ℕ) (at n : ℕ) (now : List ℕ) (before rest : ℕ) : Type 0 where
+  pub done : List ℕ
+  pub all : decimal n ≡ decimal rest ++ done
+  pub count : before + length done ≡ 10
+  pub some : 0 < before
+  pub room : rest < 10 ^ before
+  pub same : now ≡ sets l (at + before) done
+
+pub figuring-start : (l : List ℕ) (at n : ℕ) → n < wordLimit → Figuring l at n l 10 n
+figuring-start l at n h =
+    record { done = []; all = sym (append-nil (decimal n)); count = refl; some = omega arith; room = omega arith; same = refl }
+
+pub figuring-length : {l now : List ℕ} {at n before rest : ℕ} → Figuring l at n now before rest → length now ≡ length l
+figuring-length {l} {now} {at} {n} {before} g = ap length (g .same) ∙ length-sets l (at + before) (g .done)
+
+-- what is left behind a figure has the other columns
+less-room : (k r : ℕ) → r < 10 ^ k → 0 < k → r / 10 < 10 ^ (k - 1)
+less-room zero r h l = absurd (omega arith)
+less-room (suc k) r h l = let e : suc k - 1 ≡ k = omega arith in rw e (omega arith)
+
+some-room : (k r : ℕ) → r < 10 ^ k → (r ≡ 0 → ⊥) → 0 < k
+some-room zero r h l = absurd (l (omega arith))
+some-room (suc k) r h l = omega arith
+
+module _ {l now : List ℕ} {at n before rest b : ℕ} (g : Figuring l at n now before rest) (last : b ≡ figure (rest % 10)) where
+  -- the last figure of rest is written too
+  abbrev written : List ℕ
+  written = set now (at + (before - 1)) b
+
+  -- the figures of rest's tenth, and those that are written then
+  figures-then : decimal n ≡ leading (rest / 10) ++ b ∷ g .done
+  figures-then =
+      rw last
+      (g .all
+      ∙ ap (λ d. d ++ g .done) (decimal-last rest)
+      ∙ append-assoc (leading (rest / 10)) (figure (rest % 10) ∷ []) (g .done))
+
+  written-same : written ≡ sets l (at + (before - 1)) (b ∷ g .done)
+  written-same =
+      let s : at + before ≡ suc (at + (before - 1)) = omega (arith, g .some) in
+      ap (λ m. set m (at + (before - 1)) b) (g .same ∙ ap (λ i. sets l i (g .done)) s)
+      ∙ set-sets (g .done) l (suc (at + (before - 1))) (at + (before - 1)) b (omega arith)
+
+  pub figuring-turn : (rest / 10 ≡ 0 → ⊥) → Figuring l at n written (before - 1) (rest / 10)
+  figuring-turn h =
+      let less = less-room before rest (g .room) (g .some) in
+      record {
+        done = b ∷ g .done;
+        all = figures-then ∙ ap (λ d. d ++ b ∷ g .done) (leading-some (rest / 10) h);
+        count = omega (arith, g .count, g .some);
+        some = some-room (before - 1) (rest / 10) less h;
+        room = less;
+        same = written-same;
+      }
+
+  -- with blanks before the figures the column stands
+  pub figuring-end : rest / 10 ≡ 0 → {after : List ℕ} → after ≡ sets written at (replicate (before - 1) blank) → after ≡ sets l at (column n)
+  unfolding column
+  figuring-end h e =
+      let figures = b ∷ g .done in
+      let whole : decimal n ≡ figures = rw (leading-none (rest / 10) h) at figures-then in
+      let width : 10 - length figures ≡ before - 1 = omega (arith, g .count) in
+      let blanks = replicate (before - 1) blank in
+      let long : length blanks ≡ before - 1 = length-replicate (before - 1) blank in
+      rw (whole, width)
+      (e
+      ∙ ap (λ m. sets m at blanks) written-same
+      ∙ sets-sets blanks figures l at (at + (before - 1)) (omega arith)
+      ∙ ap (λ i. sets (sets l at blanks) (at + i) figures) (sym long)
+      ∙ sym (sets-append blanks figures l at))
