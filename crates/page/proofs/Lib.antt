@@ -1,4 +1,5 @@
 pub mod Claims
+pub mod CodeAnswers
 pub mod Columns
 pub mod Fields
 pub mod Figures

@@ -1,42 +1,38 @@
+-- `page::put_line` meets its contract: head, fields and line feed make the line.
+use native.Mathlib.Omega.{arith}
+use mathlib.Core.Path.{_∙_}
+use lib.ListN.{length-set}
+use Rattle.page.proofs.Lines.{line-put}
 use borrow.Author.Needs.{needs}
 use Rattle.page.proofs.put_line.Statement.{statement}
 use Rattle.page.proofs.put_line.Tie as tie
-use Rattle.page.proofs.put_line.Reads as reads
-use Rattle.page.proofs.put_line.Lts as lts
-use Rattle.page.proofs.put_fields.Reads as put-fields-reads
-use Rattle.page.proofs.text.put_head.Reads as put-head-reads
 
--- src/lib.rt:48:14
 mul-at : tie.Need-mul-at
 mul-at c = search needs
 
--- src/lib.rt:49:5
 put-head-requires : tie.Need-put-head-requires
 put-head-requires c κs = search needs
 
--- src/lib.rt:50:51
 add-put-fields : tie.Need-add-put-fields
 add-put-fields c = search needs
 
--- src/lib.rt:50:9
 put-fields-requires : tie.Need-put-fields-requires
 put-fields-requires c κs = search needs
 
--- src/lib.rt:51:12
 add-memory : tie.Need-add-memory
 add-memory c = search needs
 
--- src/lib.rt:51:5
 slice-write-memory : tie.Need-slice-write-memory
 slice-write-memory c = search needs
 
--- src/lib.rt:44:1
 same-length : tie.Need-same-length
-same-length c = search needs
+same-length c = rw length-set (c .before .memory2 .given ∙ c .before .before .before .before .before .memory .given)
 
--- src/lib.rt:44:1
 returns : tie.Need-returns
-returns c = search needs
+returns c =
+    let h = c .before .before .before .before .before .before in
+    let a = h .before .before .before .before .args in
+    line-put (a .memory .now) (a .i) (omega arith) (h .put-head .ensures) (c .before .before .put-fields .ensures)
 
 pub put-line-spec : {M : Type 1} → statement M
 put-line-spec =

@@ -1,43 +1,39 @@
+-- `page::put_lines` meets its contract. The invariant: i lines are put, and the cursor in hand is behind their postings.
+use Prim.Native.Nat.{_-_}
+use native.Mathlib.Omega.{arith}
+use Rattle.page.proofs.Lines.{Lining, lining-start, lining-turn, lining-end}
 use borrow.Author.Needs.{needs}
 use Rattle.page.proofs.put_lines.Statement.{statement}
 use Rattle.page.proofs.put_lines.Tie as tie
-use Rattle.page.proofs.put_lines.Reads as reads
-use Rattle.page.proofs.put_lines.Lts as lts
-use Rattle.page.proofs.put_line.Reads as put-line-reads
 
 abbrev Inv-loop : tie.InvT-loop
-Inv-loop card term lines memory₀ here₀ i₀ memory here i = ?
+Inv-loop card term lines memory₀ here₀ i₀ memory here i = Lining card here₀ term lines memory₀ memory here i
 
 abbrev μ-loop : tie.MeasureT-loop
-μ-loop card term lines memory₀ here₀ i₀ memory here i = ?
+μ-loop card term lines memory₀ here₀ i₀ memory here i = lines - i
 
--- src/lib.rt:62:5
 loop-holds : tie.Need-loop-holds Inv-loop μ-loop
-loop-holds c = search needs
+loop-holds c = lining-start _ _ _ _ _
 
--- src/lib.rt:63:13
 put-line-requires : tie.Need-put-line-requires Inv-loop μ-loop
-put-line-requires c κs = search needs
+put-line-requires c κs = let g = c .before .before .loop .inv in omega (arith, g .kept, c .before .loop-test .taken)
 
--- src/lib.rt:65:9
 add-i : tie.Need-add-i Inv-loop μ-loop
 add-i c = search needs
 
--- src/lib.rt:62:5
 loop-less : tie.Need-loop-less Inv-loop μ-loop
 loop-less c = search needs
 
--- src/lib.rt:62:5
 loop-again : tie.Need-loop-again Inv-loop μ-loop
-loop-again c = search needs
+loop-again c =
+    let t = c .before .before .before .before in
+    lining-turn (omega arith) (t .before .loop .inv) (t .loop-test .taken) (c .before .before .put-line .ensures) (c .before .memory .given)
 
--- src/lib.rt:56:1
 same-length : tie.Need-same-length Inv-loop μ-loop
-same-length c = search needs
+same-length c = c .before .loop .inv .kept
 
--- src/lib.rt:56:1
 returns : tie.Need-returns Inv-loop μ-loop
-returns c = search needs
+returns c = lining-end (c .before .loop .inv) (c .loop-test .left)
 
 pub put-lines-spec : {M : Type 1} → statement M
 put-lines-spec =
