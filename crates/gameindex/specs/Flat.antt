@@ -8,6 +8,7 @@ use Rattle.span.specs.declared.WriteSpan.{WriteSpan}
 use Rattle.lookup.specs.declared.LookupAnswer.{LookupAnswer}
 use Rattle.lookup.specs.Answer.{numberOf, countOf, blocksReadOf}
 use Rattle.found.specs.Found.{Lookup}
+use Rattle.page.specs.Page.{Printed}
 
 abbrev pub flag : Bool → ℕ
 flag b = cond b 1 0
@@ -38,3 +39,9 @@ pub record LookedUp (number found blocks : ℕ) (answer : List ℕ) (l : Lookup)
   pub ofFound : found ≡ l .count
   pub ofBlocks : blocks ≡ l .blocks
   pub ofAnswer : answer ≡ l .answer
+
+-- the reply, the number filled in and the memory left are those of a page
+pub record Paged (number lines : ℕ) (memory : List ℕ) (p : Printed) : Type 0 where
+  pub ofNumber : number ≡ p .number
+  pub ofLines : lines ≡ p .lines
+  pub ofMemory : memory ≡ p .memory

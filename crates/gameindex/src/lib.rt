@@ -5,11 +5,13 @@ ghost use Rattle.card.specs.Sound.{judged};
 ghost use Rattle.span.specs.Span.{writeSpan};
 ghost use Rattle.update.specs.Step.{step};
 ghost use Rattle.pair.specs.Bounds.{lowest, highest};
-ghost use Rattle.gameindex.specs.Flat.{flag, Stepped, Spanned, Filled, LookedUp};
+ghost use Rattle.gameindex.specs.Flat.{flag, Stepped, Spanned, Filled, LookedUp, Paged};
 ghost use Rattle.found.specs.Found.{lookup};
 ghost use Rattle.found.specs.Views.{Viewed};
 ghost use Rattle.reader.specs.Reader.{read, ReadOff};
+ghost use Rattle.page.specs.Page.{printed};
 use lookup::LookupAnswer;
+use page::PageAnswer;
 
 // Formats a card; the reply is the number, 0 where it is done.
 #[no_mangle]
@@ -157,4 +159,29 @@ pub extern "C" fn gi_read(
     let reading = reader::read(card, term, from, to, answer);
     *found = reading.count;
     reading.number
+}
+
+// Writes the page of a question into the first bytes of the memory; the reply is the number, 0 where it is done. The count of lines goes behind the last reference.
+#[no_mangle]
+pub extern "C" fn gi_page(
+    card: &[u32],
+    term: u32,
+    from: u32,
+    to: u32,
+    memory: &mut [u8],
+    lines: &mut u32,
+) -> u32
+    ensures { λ r. ⌜ Paged r (now (lines .exit)) (now (memory .exit)) (printed (now (card .entry)) term from to (now (memory .entry))) ⌝ }
+{
+    let answer = page::page(card, term, from, to, memory);
+    match answer {
+        PageAnswer::Refused(number) => {
+            *lines = 0;
+            number
+        }
+        PageAnswer::Lines(count) => {
+            *lines = count;
+            0
+        }
+    }
 }

@@ -2,9 +2,9 @@
 use Prim.Native.Nat.{ℕ, _+_, _*_, _/_, _≤_, _<_}
 use native.Mathlib.Omega.{arith}
 use mathlib.Core.Path.{_≡_, refl, sym, ap, _∙_}
-use mathlib.Core.Bool.{true}
+use mathlib.Core.Bool.{Bool, true, false}
 use mathlib.Core.List.{List}
-use borrow.Author.Tests.{eq-eqb, ne-eqb, lt-ltb, le-ltb}
+use borrow.Author.Tests.{eq-eqb, ne-eqb, eqb-true, lt-ltb, le-ltb}
 use lib.ListN.{length}
 use lib.Seq.{sets}
 use lib.Dec.{eqb, ltb}
@@ -16,8 +16,8 @@ use Rattle.reader.specs.Reader.{allYielded}
 use Rattle.reader.specs.code.Cursor.{CursorCounted}
 use Rattle.page.specs.declared.PageAnswer.{PageAnswer}
 use Rattle.page.specs.declared.PageAnswer.the-variants.{Refused, Lines}
-use Rattle.page.specs.Page.{lineCount, page, pageNumber, printed}
-use Rattle.page.specs.Answer.{answerOf}
+use Rattle.page.specs.Page.{lineCount, page, pageNumber, Printed, printed}
+use Rattle.page.specs.Answer.{numberOf, linesOf, answerOf}
 use Rattle.page.specs.code.Putting.{LinesPut}
 use Rattle.page.proofs.ReadBack.{page-length}
 use Rattle.page.proofs.Printing.{found-words, printed-done, printed-refused}
@@ -69,3 +69,15 @@ module _ (c : List ℕ) (t a z : ℕ) (memory : List ℕ) where
         let k : pageNumber c t a z memory ≡ 0 = rw (question, le-ltb (length memory) (length (page t (found c t a z))) (rw size l)) in
         let p = printed-done c t a z memory k in
         (rw (p, lines-same), w .put a z (x .after) ∙ rw (p, lines-same, all-found))
+
+-- the numbers of a page's answer are those of the page
+pub record AnswerNumbers (r : PageAnswer) (p : Printed) : Type 0 where
+  pub number : numberOf r ≡ p .number
+  pub lines : linesOf r ≡ p .lines
+
+pub answer-numbers : (c : List ℕ) (t a z : ℕ) (memory : List ℕ) → AnswerNumbers (answerOf (printed c t a z memory)) (printed c t a z memory)
+answer-numbers c t a z memory = go (eqb (pageNumber c t a z memory) 0) refl
+  where
+    go : (s : Bool) → eqb (pageNumber c t a z memory) 0 ≡ s → AnswerNumbers (answerOf (printed c t a z memory)) (printed c t a z memory)
+    go true e = let p = printed-done c t a z memory (eqb-true (pageNumber c t a z memory) 0 e) in record { number = rw p; lines = rw p }
+    go false e = let p = printed-refused c t a z memory e in record { number = rw (p, e); lines = rw (p, e) }
