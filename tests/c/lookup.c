@@ -124,8 +124,7 @@ static void many_blocks(void) {
     found(case3(), 8, 1, 9, FOUND(1), 1, group, "in the second of two");
     found(case3(), 8, 2, 9, NONE, 1, group, "beyond the second of two");
 
-    struct card card = WITH(CARD(1, 8, 4, 2, 3, 0, 0, 0), 2, 6, 6, 1, 2, 3, 4, 5, 6);
-    card = WITH(WITH(card, 3, 6, 6, 7, 8, 9, 10, 11, 12), 0, 6, 1, 13, 9, 1, 1, 0, 0);
+    struct card card = three_blocks();
     found(card, 6, GI_LOWEST, GI_HIGHEST, FOUND(1, 2, 3, 4, 5, 6, 7, 8, 9, 10, 11, 12, 13), 3, group,
           "a term over three");
     found(card, 6, 6, 7, FOUND(6, 7), 2, group, "the end of one and the start of the next");

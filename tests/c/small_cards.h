@@ -17,6 +17,7 @@ extern int failed;
 void test_format_judge(void);
 void test_step(void);
 void test_lookup(void);
+void test_page(void);
 
 static inline void check(bool holds, const char *group, const char *what) {
     if (holds) {
@@ -116,6 +117,12 @@ static inline struct card wrapped(void) {
     struct card card = WITH(CARD(1, 8, 4, 3, 2, 1, 2, 1), 3, 2, 2, 1, 5, 3, 1, 1, 0);
     card = WITH(card, 0, 4, 1, 9, 0, 0, 0, 0, 0);
     return WITH(card, 1, 1, 2, 1, 2, 2, 1, 1, 0);
+}
+
+/* Term 6 with positions 1 to 13 and (9,1) in old places 2, 3 and 0. */
+static inline struct card three_blocks(void) {
+    struct card card = WITH(CARD(1, 8, 4, 2, 3, 0, 0, 0), 2, 6, 6, 1, 2, 3, 4, 5, 6);
+    return WITH(WITH(card, 3, 6, 6, 7, 8, 9, 10, 11, 12), 0, 6, 1, 13, 9, 1, 1, 0, 0);
 }
 
 /* Judges a card, and sees that judging changed none of its words. */

@@ -10,6 +10,7 @@ int main(void) {
     test_format_judge();
     test_step();
     test_lookup();
+    test_page();
     printf("%d passed, %d failed\n", passed, failed);
     return failed == 0 ? 0 : 1;
 }

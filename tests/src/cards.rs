@@ -162,6 +162,119 @@ pub fn loose(random: &mut Random, b: u32, n: u32) -> Vec<u32> {
     card
 }
 
+/// A sound card of one of three kinds.
+pub fn any(random: &mut Random, b: u32, n: u32) -> Vec<u32> {
+    match random.below(5) {
+        0 => fresh(random, b, n),
+        1 | 2 => stepped(random, b, n),
+        _ => loose(random, b, n),
+    }
+}
+
+/// A card with blocks of 8 words over even terms, each with positions 1 to `most`: a term's pairs
+/// over many blocks in both segments, gaps between them, old blocks from below the boundary to above.
+pub fn over_many_blocks(random: &mut Random, terms: u32, most: u32) -> Vec<u32> {
+    let n = random.within(4, 12);
+    let live = n as usize - 1 - random.below(2);
+    let new_count = random.below(live + 1);
+    // All pairs in order; each block takes the next few, now and then leaving some out.
+    let all: Vec<Pair> = (1..=terms)
+        .flat_map(|term| (1..=most).map(move |position| (term * 2, position)))
+        .collect();
+    let fill = |random: &mut Random, mut at: usize, count: usize| {
+        let mut blocks: Vec<Vec<Pair>> = Vec::new();
+        while blocks.len() < count && at < all.len() {
+            let wanted = 1 + random.below(4);
+            let pairs = all[at..].iter().copied().take(wanted);
+            let pairs = block::longest_beginning(pairs, 8);
+            at += pairs.len() + random.below(2);
+            blocks.push(pairs);
+        }
+        blocks
+    };
+    let new = fill(random, 0, new_count);
+    let boundary = new.last().map(|block| block[block.len() - 1]);
+    let above = all
+        .iter()
+        .position(|&pair| Some(pair) > boundary)
+        .unwrap_or(all.len());
+    // The first old block reaches above the boundary and may begin below it.
+    let back = random.below(4).min(above);
+    let mut old = fill(random, above - back, live - new.len());
+    while old
+        .first()
+        .is_some_and(|first| first.last().copied() <= boundary)
+    {
+        old.remove(0);
+    }
+    let start = random.below(n as usize) as u32;
+    laid_out(memory(random, 8, n), 8, n, start, &old, &new)
+}
+
+/// The new and the old blocks of a card that holds one term, nearly full: `live` blocks in all, the
+/// first of them new. The boundary stands in the old segment as well.
+pub fn blocks_of_one_term(
+    term: u32,
+    b: u32,
+    new_count: usize,
+    live: usize,
+) -> (Vec<Vec<Pair>>, Vec<Vec<Pair>>) {
+    let size = b - 2;
+    let block = |i: usize| -> Vec<Pair> {
+        let first = 1 + i as u32 * (size - 1);
+        (first..first + size - 1).map(|i| (term, i * 3)).collect()
+    };
+    let new: Vec<Vec<Pair>> = (0..new_count).map(block).collect();
+    let mut old: Vec<Vec<Pair>> = (new_count..live).map(block).collect();
+    if let (Some(last), Some(first)) = (new.last(), old.first_mut()) {
+        first.insert(0, last[last.len() - 1]);
+    }
+    (new, old)
+}
+
+/// Words at random, often of a card's length and with a configuration and a map that could be.
+pub fn random_words(random: &mut Random) -> Vec<u32> {
+    let b = random.pick(&[8, 8, 9, 10]);
+    let n = random.within(2, 4);
+    let length = right_length(b, n);
+    let mut card: Vec<u32> = match random.below(3) {
+        0 => random.words(length),
+        1 => (0..length).map(|_| random.below(4) as u32).collect(),
+        _ => (0..length)
+            .map(|_| random.pick(&[0, 0, 0, 1, 1, 2, 3, u32::MAX]))
+            .collect(),
+    };
+    card[0] = u32::from(!random.chance(1, 12));
+    card[1] = if random.chance(1, 12) {
+        random.within(6, 11)
+    } else {
+        b
+    };
+    card[2] = if random.chance(1, 12) {
+        random.within(0, 6)
+    } else {
+        n
+    };
+    if random.chance(4, 5) {
+        card[3] = random.below(n as usize) as u32;
+        card[4] = random.below(n as usize) as u32;
+        card[5] = random.below((n - card[4]) as usize) as u32;
+        if card[5] == 0 {
+            card[6] = 0;
+            card[7] = 0;
+        }
+    }
+    if random.chance(1, 2) {
+        // The map says what stands where the blocks' first pairs would be.
+        for place in 0..n as usize {
+            let block = 8 + 2 * n as usize + place * b as usize;
+            card[8 + 2 * place] = card[block];
+            card[9 + 2 * place] = card[block + 2];
+        }
+    }
+    card
+}
+
 /// At most `count` blocks of pairs that rise after the cursor, which moves on to the last.
 pub fn segment(
     random: &mut Random,

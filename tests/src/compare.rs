@@ -2,7 +2,8 @@
 
 use crate::ffi;
 use crate::random::Random;
-use crate::second::{self, Configuration, LookupAnswer, StepAnswer};
+use crate::second::page::{page_bytes, LINE_BYTES, LINE_POSITIONS};
+use crate::second::{self, Configuration, LookupAnswer, PageAnswer, StepAnswer};
 
 /// How often each number came out of a test's comparisons.
 #[derive(Clone, Debug, Default)]
@@ -233,31 +234,55 @@ pub fn refused(number: u32) -> StepAnswer {
     }
 }
 
-/// A slice's words with guard words before and after them.
-struct Guarded {
-    words: Vec<u32>,
+/// Words or bytes lent to a call, and the values that guard them: all different, and none of them one
+/// that a call would write there by chance.
+trait Lent: Copy + PartialEq {
+    fn guard(i: usize) -> Self;
 }
 
-impl Guarded {
-    fn new(inside: &[u32]) -> Guarded {
-        let mut words = Vec::with_capacity(inside.len() + 2 * GUARD);
-        words.extend((0..GUARD as u32).map(|i| 0x5EED_0000 + i));
-        words.extend_from_slice(inside);
-        words.extend((0..GUARD as u32).map(|i| 0xFACE_0000 + i));
-        Guarded { words }
+impl Lent for u32 {
+    fn guard(i: usize) -> u32 {
+        0x5EED_0000 + i as u32
+    }
+}
+
+impl Lent for u8 {
+    fn guard(i: usize) -> u8 {
+        0x80 + i as u8
+    }
+}
+
+/// A slice's words or bytes with guards before and after them.
+struct Guarded<T> {
+    memory: Vec<T>,
+}
+
+impl<T: Lent> Guarded<T> {
+    fn new(inside: &[T]) -> Guarded<T> {
+        let mut memory = Vec::with_capacity(inside.len() + 2 * GUARD);
+        memory.extend((0..GUARD).map(T::guard));
+        memory.extend_from_slice(inside);
+        memory.extend((GUARD..2 * GUARD).map(T::guard));
+        Guarded { memory }
     }
 
-    fn inside(&mut self) -> &mut [u32] {
-        let end = self.words.len() - GUARD;
-        &mut self.words[GUARD..end]
+    fn inside(&mut self) -> &mut [T] {
+        let end = self.memory.len() - GUARD;
+        &mut self.memory[GUARD..end]
     }
 
     fn guards_stand(&self) -> bool {
-        let before = self.words[..GUARD].iter();
-        let after = self.words[self.words.len() - GUARD..].iter();
-        before.zip(0..).all(|(&word, i)| word == 0x5EED_0000 + i)
-            && after.zip(0..).all(|(&word, i)| word == 0xFACE_0000 + i)
+        let before = self.memory[..GUARD].iter();
+        let after = self.memory[self.memory.len() - GUARD..].iter();
+        let mut guards = before.chain(after).zip(0..);
+        guards.all(|(&value, i)| value == T::guard(i))
     }
+}
+
+/// Where two slices of one length begin to differ.
+fn first_difference<T: PartialEq>(one: &[T], other: &[T]) -> usize {
+    let both = one.iter().zip(other);
+    both.take_while(|(one, other)| one == other).count()
 }
 
 /// Both steps give the same answer and leave the same card, word for word; a refused one leaves
@@ -299,8 +324,7 @@ pub fn step(
         );
     }
     if lent.inside() != &expected_card[..] {
-        let words = lent.inside().iter().zip(&expected_card);
-        let word = words.take_while(|(one, other)| one == other).count();
+        let word = first_difference(lent.inside(), &expected_card);
         panic!(
             "after step's write {} word {word} is {}, the second program's {}; {}",
             answer.write,
@@ -471,4 +495,96 @@ pub fn lookups(
         lookup(tally, card, question, &random.words(more), about);
     }
     lookup(tally, card, question, &random.words(found), about)
+}
+
+/// Both pages give the same answer and leave the same bytes, those after the page as they were; a
+/// refused one leaves them all; card, and bytes around the memory, stay. A page reads back as the
+/// library's lookup of the same question, and its line feeds are as many as its lines.
+pub fn page(
+    tally: &mut Tally,
+    card: &[u32],
+    question: Question,
+    memory: &[u8],
+    about: &dyn Fn() -> String,
+) -> PageAnswer {
+    let (term, from, to) = question;
+    let mut expected_bytes = memory.to_vec();
+    let expected = second::page(card, term, from, to, &mut expected_bytes);
+    let before = card.to_vec();
+    let mut lent = Guarded::new(memory);
+    let reply = ffi::page(card, term, from, to, lent.inside());
+    let message = || {
+        format!(
+            "{}; term {term} from {from} to {to}, {} bytes; a card of {} words: {}",
+            about(),
+            memory.len(),
+            before.len(),
+            shown(&before)
+        )
+    };
+    assert_eq!(
+        reply,
+        expected,
+        "page gave the left, the second program the right; {}",
+        message()
+    );
+    if lent.inside() != &expected_bytes[..] {
+        let byte = first_difference(lent.inside(), &expected_bytes);
+        panic!(
+            "byte {} of line {} is {}, the second program's {}; {}",
+            byte % LINE_BYTES,
+            byte / LINE_BYTES,
+            lent.inside()[byte],
+            expected_bytes[byte],
+            message()
+        );
+    }
+    assert!(lent.guards_stand(), "page wrote outside; {}", message());
+    assert!(before == card, "the card was changed; {}", message());
+    let lines = reply.lines as usize;
+    let (page, after) = lent.inside().split_at(lines * LINE_BYTES);
+    let kept = after == &memory[page.len()..];
+    assert!(kept, "bytes after the page were changed; {}", message());
+    if reply.number != 0 {
+        assert_eq!(lines, 0, "lines of a refusal; {}", message());
+    } else {
+        let mut positions = vec![0; lines * LINE_POSITIONS];
+        let found = ffi::lookup(card, term, from, to, &mut positions);
+        positions.truncate(found.count as usize);
+        let read = (positions.first().map(|_| term), positions);
+        assert_eq!(found.number, 0, "the lookup beside it; {}", message());
+        assert!(
+            second::read_page(page) == Some(read),
+            "the page read back is not the lookup; {}",
+            message()
+        );
+        let line_feeds = page.iter().filter(|&&byte| byte == b'\n').count();
+        assert_eq!(line_feeds, lines, "line feeds; {}", message());
+    }
+    tally.note(reply.number);
+    reply
+}
+
+/// The page with just enough memory, with one byte too few, with none, with some more, and now and
+/// then with other sizes that are too few. Gives the answer to the one with just enough.
+pub fn pages(
+    tally: &mut Tally,
+    random: &mut Random,
+    card: &[u32],
+    question: Question,
+    about: &dyn Fn() -> String,
+) -> PageAnswer {
+    let (term, from, to) = question;
+    let need = page_bytes(second::PostingReader::open(card, term, from, to).count());
+    let mut sizes = vec![need + 1 + random.below(2 * LINE_BYTES)];
+    if need > 0 {
+        sizes.extend([need - 1, 0]);
+        if random.chance(1, 3) {
+            sizes.extend([need - LINE_BYTES, random.below(need)]);
+        }
+    }
+    for size in sizes {
+        page(tally, card, question, &random.bytes(size), about);
+    }
+    page(tally, card, question, &random.bytes(need), about)
 }

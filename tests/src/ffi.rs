@@ -3,7 +3,7 @@
 use std::ops::Range;
 
 use crate::lists::Program;
-use crate::second::{LookupAnswer, StepAnswer};
+use crate::second::{LookupAnswer, PageAnswer, StepAnswer};
 
 /// What stands in a count's word before the call, so that a word left unwritten is seen.
 const UNWRITTEN: u32 = 0xA5A5_A5A5;
@@ -66,6 +66,16 @@ mod c {
             answer: *mut u32,
             answer_len: usize,
             found: *mut usize,
+        ) -> u32;
+        pub fn gi_page(
+            card: *const u32,
+            card_len: usize,
+            term: u32,
+            from: u32,
+            to: u32,
+            page: *mut u8,
+            page_len: usize,
+            lines: *mut u32,
         ) -> u32;
     }
 }
@@ -200,6 +210,25 @@ pub fn read(card: &[u32], term: u32, from: u32, to: u32, answer: &mut [u32]) -> 
         )
     };
     (number, found)
+}
+
+pub fn page(card: &[u32], term: u32, from: u32, to: u32, memory: &mut [u8]) -> PageAnswer {
+    let mut lines = UNWRITTEN;
+    // SAFETY: each pointer and length are those of one slice; the memory's is lent for writing, and
+    // the count is a word of this call.
+    let number = unsafe {
+        c::gi_page(
+            card.as_ptr(),
+            card.len(),
+            term,
+            from,
+            to,
+            memory.as_mut_ptr(),
+            memory.len(),
+            &mut lines,
+        )
+    };
+    PageAnswer { number, lines }
 }
 
 /// The library under test, for lists of calls.

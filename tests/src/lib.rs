@@ -5,5 +5,6 @@ pub mod cards;
 pub mod compare;
 pub mod ffi;
 pub mod lists;
+pub mod questions;
 pub mod random;
 pub mod second;

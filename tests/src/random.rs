@@ -54,4 +54,8 @@ impl Random {
         self.fill(&mut words);
         words
     }
+
+    pub fn bytes(&mut self, length: usize) -> Vec<u8> {
+        (0..length).map(|_| self.draw() as u8).collect()
+    }
 }

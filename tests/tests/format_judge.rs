@@ -934,44 +934,7 @@ fn judge_of_random_words() {
     let mut random = Random::new(14);
     let mut tally = Tally::new();
     for _ in 0..300_000 {
-        let b = random.pick(&[8, 8, 9, 10]);
-        let n = random.within(2, 4);
-        let length = cards::right_length(b, n);
-        let mut card: Vec<u32> = match random.below(3) {
-            0 => random.words(length),
-            1 => (0..length).map(|_| random.below(4) as u32).collect(),
-            _ => (0..length)
-                .map(|_| random.pick(&[0, 0, 0, 1, 1, 2, 3, TOP]))
-                .collect(),
-        };
-        card[0] = u32::from(!random.chance(1, 12));
-        card[1] = if random.chance(1, 12) {
-            random.within(6, 11)
-        } else {
-            b
-        };
-        card[2] = if random.chance(1, 12) {
-            random.within(0, 6)
-        } else {
-            n
-        };
-        if random.chance(4, 5) {
-            card[3] = random.below(n as usize) as u32;
-            card[4] = random.below(n as usize) as u32;
-            card[5] = random.below((n - card[4]) as usize) as u32;
-            if card[5] == 0 {
-                card[6] = 0;
-                card[7] = 0;
-            }
-        }
-        if random.chance(1, 2) {
-            // The map says what stands where the blocks' first pairs would be.
-            for place in 0..n as usize {
-                let block = 8 + 2 * n as usize + place * b as usize;
-                card[8 + 2 * place] = card[block];
-                card[9 + 2 * place] = card[block + 2];
-            }
-        }
+        let card = cards::random_words(&mut random);
         compare::judge(&mut tally, &card, &|| "random words".to_string());
     }
     tally.report("judge_of_random_words");

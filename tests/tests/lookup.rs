@@ -1,11 +1,11 @@
 // The exported lookup compared with the second program's, and whole lists of calls on the library
 // beside the history.
 
-use gameindex_tests::batches::{self, Mixture, Universe};
 use gameindex_tests::cards;
 use gameindex_tests::compare::{self, Question, Tally};
 use gameindex_tests::ffi::{self, Library};
-use gameindex_tests::lists::{self, Figures, List};
+use gameindex_tests::lists::{Figures, List};
+use gameindex_tests::questions::{self, Spread};
 use gameindex_tests::random::Random;
 use gameindex_tests::second::block;
 use gameindex_tests::second::{self, Configuration, LookupAnswer, Pair};
@@ -77,70 +77,30 @@ fn lookup_on_the_papers_cases() {
 /// How the answers were spread.
 #[derive(Debug, Default)]
 struct Seen {
-    questions: u64,
-    in_mid_pass: u64,
-    from_both_segments: u64,
-    old_pairs_hidden: u64,
-    several_blocks: u64,
+    spread: Spread,
     none_found: u64,
     two_above_the_holders: u64,
     most_blocks: u32,
 }
 
 impl Seen {
-    fn note(&mut self, card: &[u32], (term, from, to): Question, reply: &LookupAnswer) {
+    fn note(&mut self, card: &[u32], question: Question, reply: &LookupAnswer) {
         if reply.number != 0 {
             return;
         }
-        self.questions += 1;
+        let holders = self.spread.note(card, question);
         self.none_found += u64::from(reply.count == 0);
         self.most_blocks = self.most_blocks.max(reply.blocks);
-        let configuration = Configuration::read(card);
-        let in_range = |place: usize, live: bool| {
-            second::layout::block_pairs(&configuration, card, place)
-                .into_iter()
-                .filter(|&pair| pair.0 == term && from <= pair.1 && pair.1 <= to)
-                .any(|pair| configuration.is_above_boundary(pair) == live)
-        };
-        let old = configuration.old_places();
-        let from_old = old.iter().any(|&place| in_range(place, true));
-        let hidden = old.iter().any(|&place| in_range(place, false));
-        let mut new = configuration.new_places().into_iter();
-        let from_new = new.any(|place| in_range(place, true) || in_range(place, false));
-        let holders = lists::holders(card, term, from, to);
-        self.in_mid_pass += u64::from(configuration.new_length > 0);
-        self.from_both_segments += u64::from(from_old && from_new);
-        self.old_pairs_hidden += u64::from(hidden);
-        self.several_blocks += u64::from(holders > 1);
         self.two_above_the_holders += u64::from(reply.blocks == holders + 2);
         assert!(holders <= reply.blocks && reply.blocks <= holders + 2);
     }
 
     fn expect(&self, least: u64) {
-        for count in [
-            self.in_mid_pass,
-            self.from_both_segments,
-            self.old_pairs_hidden,
-            self.several_blocks,
-            self.none_found,
-            self.two_above_the_holders,
-        ] {
+        self.spread.expect(least);
+        for count in [self.none_found, self.two_above_the_holders] {
             assert!(count >= least, "too few: {self:?}");
         }
     }
-}
-
-/// Every question over these terms and positions.
-fn every_question(terms: &[u32], positions: &[u32]) -> Vec<Question> {
-    let mut questions = Vec::new();
-    for &term in terms {
-        for &from in positions {
-            for &to in positions {
-                questions.push((term, from, to));
-            }
-        }
-    }
-    questions
 }
 
 /// What stands around the answer words of a lookup of all positions.
@@ -195,66 +155,14 @@ fn lookup_of_every_question_on_small_cards() {
     let mut whole = Tally::new();
     let mut seen = Seen::default();
     let mut cards_asked = 0;
-    let worlds = [
-        (
-            Universe {
-                terms: vec![1, 2, 3],
-                positions: (1..=7).collect(),
-            },
-            every_question(&[0, 1, 2, 3, 4, TOP], &[0, 1, 2, 3, 4, 5, 6, 7, 8, TOP]),
-        ),
-        (
-            Universe {
-                terms: vec![5],
-                positions: (1..=16).collect(),
-            },
-            every_question(
-                &[0, 4, 5, 6],
-                &[0, 1, 2, 3, 5, 6, 7, 8, 9, 11, 12, 13, 14, 16, 17, TOP],
-            ),
-        ),
-        (
-            Universe {
-                terms: vec![1, TOP - 1, TOP],
-                positions: vec![1, 2, TOP - 3, TOP - 2, TOP - 1, TOP],
-            },
-            every_question(
-                &[0, 1, 2, TOP - 2, TOP - 1, TOP],
-                &[0, 1, 2, 3, TOP - 4, TOP - 3, TOP - 2, TOP - 1, TOP],
-            ),
-        ),
-    ];
-    for round in 0..36 {
-        let (universe, questions) = &worlds[round % worlds.len()];
-        let b = random.pick(&[8, 8, 8, 9, 10]);
-        let n = random.within(3, 6);
-        let mut card = cards::fresh(&mut random, b, n);
-        for _ in 0..3 {
-            let mixture = random.pick(&[Mixture::Additions, Mixture::Both]);
-            let batch = batches::good(&mut random, universe, mixture, 20);
-            for _ in 0..12 {
-                let answer = second::step(&mut card, &batch);
-                // Only write 3 changes what is found, but free places may hold anything.
-                if answer.number == 0 && (answer.write == 3 || random.chance(1, 8)) {
-                    cards_asked += 1;
-                    for &question in questions {
-                        let reply = compare::lookups(
-                            &mut tally,
-                            &mut random,
-                            &card,
-                            question,
-                            &String::new,
-                        );
-                        seen.note(&card, question, &reply);
-                    }
-                    lookups_all(&mut whole, &mut random, &card, questions);
-                }
-                if answer.number != 0 || answer.finished {
-                    break;
-                }
-            }
+    questions::on_small_cards(&mut random, 36, |random, card, questions| {
+        cards_asked += 1;
+        for &question in questions {
+            let reply = compare::lookups(&mut tally, random, card, question, &String::new);
+            seen.note(card, question, &reply);
         }
-    }
+        lookups_all(&mut whole, random, card, questions);
+    });
     tally.report("lookup_of_every_question_on_small_cards");
     whole.report("lookup_of_every_question_on_small_cards, all of a term");
     println!("lookup_of_every_question_on_small_cards: {cards_asked} cards, {seen:?}");
@@ -272,48 +180,13 @@ fn lookup_across_many_blocks() {
     let mut whole = Tally::new();
     let mut seen = Seen::default();
     for round in 0..36 {
-        let n = random.within(4, 12);
-        let live = n as usize - 1 - random.below(2);
-        let new_count = random.below(live + 1);
         let terms: u32 = if round % 2 == 0 { 1 } else { 3 };
         let most = 45 / terms;
-        // All pairs in order; each block takes the next few, now and then leaving some out.
-        let all: Vec<Pair> = (1..=terms)
-            .flat_map(|term| (1..=most).map(move |position| (term * 2, position)))
-            .collect();
-        let fill = |random: &mut Random, mut at: usize, count: usize| {
-            let mut blocks: Vec<Vec<Pair>> = Vec::new();
-            while blocks.len() < count && at < all.len() {
-                let wanted = 1 + random.below(4);
-                let pairs = all[at..].iter().copied().take(wanted);
-                let pairs = block::longest_beginning(pairs, 8);
-                at += pairs.len() + random.below(2);
-                blocks.push(pairs);
-            }
-            blocks
-        };
-        let new = fill(&mut random, 0, new_count);
-        let boundary = new.last().map(|block| block[block.len() - 1]);
-        let above = all
-            .iter()
-            .position(|&pair| Some(pair) > boundary)
-            .unwrap_or(all.len());
-        // The first old block reaches above the boundary and may begin below it.
-        let back = random.below(4).min(above);
-        let mut old = fill(&mut random, above - back, live - new.len());
-        while old
-            .first()
-            .is_some_and(|first| first.last().copied() <= boundary)
-        {
-            old.remove(0);
-        }
-        let start = random.below(n as usize) as u32;
-        let memory = cards::memory(&mut random, 8, n);
-        let card = cards::laid_out(memory, 8, n, start, &old, &new);
+        let card = cards::over_many_blocks(&mut random, terms, most);
         assert_eq!(second::judge(&card), 0);
         let terms: Vec<u32> = (1..=2 * terms + 1).collect();
         let positions: Vec<u32> = (0..=most + 1).collect();
-        let questions = every_question(&terms, &positions);
+        let questions = questions::every(&terms, &positions);
         lookups_all(&mut whole, &mut random, &card, &questions);
         for question in questions {
             // Of those that are refused a few will do.
@@ -330,47 +203,6 @@ fn lookup_across_many_blocks() {
     tally.expect(&[0, 9, 10], 10_000);
     whole.expect(&[0, 10], 50);
     seen.expect(500);
-}
-
-/// A question at a pair of the card or next to it, or at none.
-fn question_near(random: &mut Random, known: &[Pair]) -> Question {
-    let beside = |random: &mut Random, word: u32| match random.below(6) {
-        0 => word.saturating_add(1),
-        1 => word.saturating_sub(1),
-        2 => random.pick(&[0, 1, 2, TOP - 1, TOP]),
-        3 => random.word(),
-        _ => word,
-    };
-    let (mut term, one) = random.pick(known);
-    if random.chance(1, 5) {
-        term = beside(random, term);
-    }
-    let from = beside(random, one);
-    // The other end is often another pair of the term.
-    let same: Vec<u32> = known
-        .iter()
-        .filter(|pair| pair.0 == term)
-        .map(|p| p.1)
-        .collect();
-    let other = if same.is_empty() {
-        random.pick(known).1
-    } else {
-        random.pick(&same)
-    };
-    let to = beside(random, other);
-    if random.chance(1, 12) {
-        (term, from, to)
-    } else {
-        (term, from.min(to).max(1), from.max(to))
-    }
-}
-
-/// All pairs of a sound card's live blocks, live or not, and a pair that is in none.
-fn known_pairs(card: &[u32]) -> Vec<Pair> {
-    let mut known: Vec<Pair> = vec![(3, 3)];
-    known.extend(Configuration::read(card).boundary());
-    known.extend(cards::block_pairs(card).concat());
-    known
 }
 
 /// Random cards of all shapes, reached by steps or not, with questions at their pairs.
@@ -392,9 +224,9 @@ fn lookup_on_cards_of_many_shapes() {
         } else {
             cards::loose(&mut random, b, n)
         };
-        let known = known_pairs(&card);
+        let known = questions::known_pairs(&card);
         for _ in 0..24 {
-            let question = question_near(&mut random, &known);
+            let question = questions::near(&mut random, &known);
             let about = || format!("B {b}, N {n}");
             let reply = compare::lookups(&mut tally, &mut random, &card, question, &about);
             seen.note(&card, question, &reply);
@@ -425,7 +257,7 @@ fn lookup_on_damaged_cards() {
         } else {
             cards::loose(&mut random, b, n)
         };
-        let known = known_pairs(&card);
+        let known = questions::known_pairs(&card);
         for word in 0..card.len() {
             let kept = card[word];
             let neighbour = card[(word + 1) % card.len()];
@@ -440,7 +272,7 @@ fn lookup_on_damaged_cards() {
                 card[word] = value;
                 let question = match random.below(3) {
                     0 => random.pick(&[(0, 1, 1), (1, 0, 1), (1, 2, 1), (0, 0, 0), (TOP, 0, TOP)]),
-                    _ => question_near(&mut random, &known),
+                    _ => questions::near(&mut random, &known),
                 };
                 let room = random.pick(&[0, 0, 1, 2, 40]);
                 let answer = random.words(room);
@@ -454,7 +286,7 @@ fn lookup_on_damaged_cards() {
             let mut longer = card.clone();
             longer.extend_from_slice(&card);
             for length in 0..=longer.len() {
-                let question = question_near(&mut random, &known);
+                let question = questions::near(&mut random, &known);
                 let part = &longer[..length];
                 let answer = random.words(length % 9);
                 compare::lookup(&mut tally, part, question, &answer, &String::new);
@@ -493,18 +325,7 @@ fn lookup_on_large_cards() {
             let new_count = random.below(live + 1);
             let mut cursor = (0, 0);
             let (new, old) = if one_term {
-                let size = b - 2;
-                let block = |i: usize| -> Vec<Pair> {
-                    let first = 1 + i as u32 * (size - 1);
-                    (first..first + size - 1).map(|i| (9, i * 3)).collect()
-                };
-                let new: Vec<Vec<Pair>> = (0..new_count).map(block).collect();
-                let mut old: Vec<Vec<Pair>> = (new_count..live).map(block).collect();
-                if let (Some(last), Some(first)) = (new.last(), old.first_mut()) {
-                    // The boundary stands in the old segment as well.
-                    first.insert(0, last[last.len() - 1]);
-                }
-                (new, old)
+                cards::blocks_of_one_term(9, b, new_count, live)
             } else {
                 let new = cards::segment(&mut random, b, new_count, &mut cursor, false);
                 let old = cards::segment(&mut random, b, live - new.len(), &mut cursor, false);
@@ -514,10 +335,10 @@ fn lookup_on_large_cards() {
             let memory = random.words(cards::right_length(b, n));
             let card = cards::laid_out(memory, b, n, start, &old, &new);
             assert_eq!(second::judge(&card), 0);
-            let known = known_pairs(&card);
+            let known = questions::known_pairs(&card);
             let few: Vec<Pair> = (0..200).map(|_| random.pick(&known)).collect();
             for _ in 0..questions {
-                let question = question_near(&mut random, &few);
+                let question = questions::near(&mut random, &few);
                 let about = || format!("B {b}, N {n}");
                 if n == 1024 && b == 1024 {
                     let (term, from, to) = question;
@@ -551,7 +372,7 @@ fn lookup_on_large_cards() {
     println!("lookup_on_large_cards: {seen:?}");
     tally.expect(&[0, 10], 500);
     whole.expect(&[0, 10], 10);
-    assert!(seen.from_both_segments > 20 && seen.several_blocks > 100);
+    assert!(seen.spread.from_both_segments > 20 && seen.spread.several_blocks > 100);
 }
 
 /// Free places that hold well-formed blocks of an earlier event, mapped and all: none is found.
@@ -565,7 +386,7 @@ fn lookup_beside_leftovers() {
         let n = random.within(2, 7);
         let mut card = cards::stepped(&mut random, b, n);
         let configuration = Configuration::read(&card);
-        let mut known = known_pairs(&card);
+        let mut known = questions::known_pairs(&card);
         for place in configuration.free_places() {
             let mut pairs: Vec<Pair> = (0..4)
                 .map(|_| {
@@ -581,7 +402,7 @@ fn lookup_beside_leftovers() {
         }
         let live = second::live_pairs(&card);
         for _ in 0..20 {
-            let question = question_near(&mut random, &known);
+            let question = questions::near(&mut random, &known);
             let (term, from, to) = question;
             let inside = |pair: &&Pair| pair.0 == term && from <= pair.1 && pair.1 <= to;
             let mut wanted = known.iter().filter(inside);

@@ -1,5 +1,5 @@
-// The second program by itself: the paper's cases P1 to P8, a table of judgements, and lists of
-// calls against the history.
+// The second program by itself: the paper's cases P1 to P8, a table of judgements, lists of calls
+// against the history, and pages written out by hand.
 
 use std::collections::BTreeSet;
 
@@ -8,6 +8,7 @@ use gameindex_tests::cards;
 use gameindex_tests::compare::{done, refused};
 use gameindex_tests::lists::{self, Figures, List, Second};
 use gameindex_tests::random::Random;
+use gameindex_tests::second::page::page_bytes;
 use gameindex_tests::second::{self, block, Configuration, Pair, HIGHEST, LOWEST};
 
 fn zeros(n: u32) -> Vec<u32> {
@@ -608,4 +609,160 @@ fn refused_calls_on_unsound_cards() {
     }
     println!("refused_calls_on_unsound_cards: {refusals} comparisons");
     assert!(refusals > 1000);
+}
+
+/// The number, the lines, and a memory of so many bytes after the call.
+fn paged(card: &[u32], question: (u32, u32, u32), room: usize) -> (u32, u32, String) {
+    let (term, from, to) = question;
+    let mut memory = vec![b'#'; room];
+    let reply = second::page(card, term, from, to, &mut memory);
+    let text = String::from_utf8(memory).expect("bytes of a page");
+    (reply.number, reply.lines, text)
+}
+
+#[test]
+fn pages_of_p7_and_p8() {
+    let card = p1(4);
+    let line = "         5          2          9                                 \n";
+    assert_eq!(line.len(), 66);
+    assert_eq!(paged(&card, (5, 1, 9), 66), (0, 1, line.to_string()));
+    assert_eq!(
+        paged(&card, (5, 1, 9), 70),
+        (0, 1, line.to_string() + "####")
+    );
+    for room in 0..66 {
+        assert_eq!(paged(&card, (5, 1, 9), room), (11, 0, "#".repeat(room)));
+    }
+    for question in [(5, 3, 8), (4, 1, 9), (6, 1, 9)] {
+        assert_eq!(paged(&card, question, 0), (0, 0, String::new()));
+        assert_eq!(paged(&card, question, 3), (0, 0, "###".to_string()));
+    }
+    // 1 to 4, then 9, then 11.
+    for question in [(0, 1, 9), (5, 0, 9), (5, 9, 8), (0, 0, 0)] {
+        assert_eq!(paged(&card, question, 0), (9, 0, String::new()));
+        assert_eq!(paged(&card, question, 66), (9, 0, "#".repeat(66)));
+    }
+    for (number, word, value) in [(1, 1, 9), (2, 0, 2), (3, 2, 1), (4, 8, 6)] {
+        let mut wrong = card.clone();
+        wrong[word] = value;
+        for question in [(5, 1, 9), (4, 1, 9), (0, 1, 9)] {
+            assert_eq!(paged(&wrong, question, 0), (number, 0, String::new()));
+            assert_eq!(paged(&wrong, question, 66), (number, 0, "#".repeat(66)));
+        }
+    }
+}
+
+/// A term on both sides of the boundary, (12, 1,000). Old pairs up to it are not live.
+#[test]
+fn pages_of_several_lines() {
+    let pairs = |positions: &[u32]| -> Vec<Pair> {
+        let pairs = positions.iter().map(|&position| (12, position));
+        pairs.collect()
+    };
+    let card = cards::laid_out(
+        vec![6; cards::right_length(8, 5)],
+        8,
+        5,
+        4,
+        &[
+            pairs(&[5, 1_000, 99_999]),
+            pairs(&[999_999_999, 1_000_000_000, u32::MAX]),
+        ],
+        &[pairs(&[1, 9, 10]), pairs(&[11, 99, 100, 1_000])],
+    );
+    assert_eq!(second::judge(&card), 0);
+    let lines = [
+        "        12          1          9         10         11         99\n",
+        "                  100       1000      99999  999999999 1000000000\n",
+        "           4294967295                                            \n",
+    ];
+    let whole = lines.concat();
+    assert_eq!(paged(&card, (12, 1, u32::MAX), 198), (0, 3, whole.clone()));
+    assert_eq!(paged(&card, (12, 1, u32::MAX), 197).0, 11);
+    let ten = lines[..2].concat();
+    assert_eq!(paged(&card, (12, 1, u32::MAX - 1), 132), (0, 2, ten));
+    let nine = [
+        "        12          9         10         11         99        100\n",
+        "                 1000      99999  999999999 1000000000           \n",
+    ];
+    assert_eq!(
+        paged(&card, (12, 2, u32::MAX - 1), 132),
+        (0, 2, nine.concat())
+    );
+    let read = second::read_page(whole.as_bytes()).expect("a page");
+    let mut positions = vec![1, 9, 10, 11, 99, 100, 1_000, 99_999];
+    positions.extend([999_999_999, 1_000_000_000, u32::MAX]);
+    assert_eq!(read, (Some(12), positions));
+}
+
+/// A page read by its columns, and bytes that are no page.
+#[test]
+fn pages_read_back() {
+    let read = |text: &str| second::read_page(text.as_bytes());
+    let five = "4294967295 4294967295         10          3 1000000000         20\n";
+    let one = "                    8                                            \n";
+    let positions = vec![u32::MAX, 10, 3, 1_000_000_000, 20];
+    assert_eq!(read(""), Some((None, vec![])));
+    assert_eq!(read(five), Some((Some(u32::MAX), positions.clone())));
+    let six = [&positions[..], &[8]].concat();
+    assert_eq!(read(&[five, one].concat()), Some((Some(u32::MAX), six)));
+    // Bytes that cannot stand where they do.
+    for text in [
+        five[..65].to_string(),
+        [five, "\n"].concat(),
+        five.replace('\n', " "),
+        five.replace(" 42", "_42"),
+        five.replace("295 4", "29504"),
+        five.replace("295 4", "296 4"),
+        five.replace(" 3 ", "3  "),
+        five.replace(" 10 ", "010 "),
+        five.replace(" 10 ", "  0 "),
+        five.replace(" 10 ", "1 0 "),
+        five.replace(" 10 ", " -1 "),
+        five.replace(" 10 ", "    "),
+    ] {
+        assert_eq!(read(&text), None, "{text}");
+    }
+    // The term on the first line alone, fields absent at the end alone, no empty line.
+    let blank = " ".repeat(65) + "\n";
+    for lines in [
+        [five, five],
+        [one, five],
+        [one, one],
+        [five, &blank],
+        [&blank, five],
+        [&five.replace("20\n", "  \n"), one],
+    ] {
+        assert_eq!(read(&lines.concat()), None, "{lines:?}");
+    }
+    assert_eq!(read(&blank), None);
+}
+
+#[test]
+fn pages_on_loose_cards() {
+    let mut random = Random::new(13);
+    let mut checked = 0;
+    let mut several_lines = 0;
+    for _ in 0..3000 {
+        let b = random.pick(&[8, 9, 12, 20]);
+        let n = random.pick(&[2, 3, 5, 8, 12]);
+        let card = cards::loose(&mut random, b, n);
+        let pairs = second::live_pairs(&card);
+        for &term in &pairs.iter().map(|pair| pair.0).collect::<BTreeSet<u32>>() {
+            let whole = pairs.range((term, 1)..=(term, u32::MAX));
+            let positions: Vec<u32> = whole.map(|pair| pair.1).collect();
+            let need = page_bytes(positions.len());
+            let (number, lines, text) = paged(&card, (term, 1, u32::MAX), need);
+            assert_eq!((number, 66 * lines as usize), (0, need));
+            assert_eq!(
+                second::read_page(text.as_bytes()),
+                Some((Some(term), positions))
+            );
+            assert_eq!(paged(&card, (term, 1, u32::MAX), need - 1).0, 11);
+            checked += 1;
+            several_lines += u32::from(lines > 1);
+        }
+    }
+    println!("pages_on_loose_cards: {checked} comparisons, {several_lines} of several lines");
+    assert!(checked > 10_000 && several_lines > 1_000);
 }

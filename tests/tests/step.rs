@@ -12,15 +12,6 @@ use gameindex_tests::second::{self, Configuration, History, Pair, StepAnswer, HI
 
 const TOP: u32 = u32::MAX;
 
-/// A sound card of one of three kinds.
-fn any_card(random: &mut Random, b: u32, n: u32) -> Vec<u32> {
-    match random.below(5) {
-        0 => cards::fresh(random, b, n),
-        1 | 2 => cards::stepped(random, b, n),
-        _ => cards::loose(random, b, n),
-    }
-}
-
 /// A good batch, over a universe or at the card's own pairs.
 fn any_batch(random: &mut Random, card: &[u32], universe: &Universe, most: usize) -> Vec<u32> {
     let mixture = Mixture::random(random);
@@ -206,7 +197,7 @@ fn step_with_bad_batches() {
     for round in 0..150 {
         let card = match round % 3 {
             0 => full.clone(),
-            _ => any_card(&mut random, 8, 2 + round % 5),
+            _ => cards::any(&mut random, 8, 2 + round % 5),
         };
         let universe = Universe::random(&mut random);
         let count = [1, 2, 3, 5, 9, 17, 40][round as usize % 7];
@@ -376,7 +367,7 @@ fn step_through_whole_passes() {
             3 => (random.within(8, 32), random.within(2, 14)),
             _ => (random.pick(&[8, 9, 11, 33]), random.pick(&[2, 3, 16])),
         };
-        let mut card = any_card(&mut random, b, n);
+        let mut card = cards::any(&mut random, b, n);
         let universe = Universe::random(&mut random);
         for _ in 0..3 {
             let most = random.pick(&[1, 3, 10, 60]);
@@ -459,7 +450,7 @@ fn step_until_no_place_is_left() {
         let b = random.pick(&[8, 8, 9, 10, 12, 20]);
         let n = random.pick(&[2, 2, 3, 4, 5, 7, 10]);
         let about = || format!("round {round}, B {b}, N {n}");
-        let mut card = any_card(&mut random, b, n);
+        let mut card = cards::any(&mut random, b, n);
         let universe = Universe::wide(2 * b as usize * n as usize);
         let mut stops = 0;
         for _ in 0..6 {
@@ -567,7 +558,7 @@ fn step_after_cuts_in_every_write() {
     for _ in 0..320 {
         let b = random.pick(&[8, 8, 9, 10, 12]);
         let n = random.within(2, 6);
-        let mut card = any_card(&mut random, b, n);
+        let mut card = cards::any(&mut random, b, n);
         let universe = Universe::random(&mut random);
         let most = random.pick(&[3, 10, 24]);
         let batch = any_batch(&mut random, &card, &universe, most);
@@ -688,7 +679,7 @@ fn step_over_leftovers_in_the_due_place() {
     for _ in 0..900 {
         let b = random.pick(&[8, 8, 9, 11, 16]);
         let n = random.within(2, 6);
-        let mut card = any_card(&mut random, b, n);
+        let mut card = cards::any(&mut random, b, n);
         let universe = Universe::random(&mut random);
         let most = random.pick(&[3, 10, 24]);
         let batch = any_batch(&mut random, &card, &universe, most);
@@ -830,7 +821,7 @@ fn step_on_unsound_cards() {
     for round in 0..220 {
         let b = random.pick(&[8, 8, 9, 10]);
         let n = random.within(2, 5);
-        let mut card = any_card(&mut random, b, n);
+        let mut card = cards::any(&mut random, b, n);
         let universe = Universe::random(&mut random);
         for word in 0..card.len() {
             let kept = card[word];

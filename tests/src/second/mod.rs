@@ -1,4 +1,5 @@
-// The second program: document 01 read literally, written for plain correctness.
+// The second program: document 01, and the requests of document 02 that have landed, read literally
+// and written for plain correctness.
 
 pub mod batch;
 pub mod block;
@@ -7,6 +8,7 @@ pub mod judge;
 pub mod layout;
 pub mod lookup;
 pub mod number;
+pub mod page;
 pub mod step;
 
 pub use batch::{applied, judge_batch};
@@ -14,4 +16,5 @@ pub use history::History;
 pub use judge::judge;
 pub use layout::{card_words, format, live_pairs, Configuration, Pair, HIGHEST, LOWEST};
 pub use lookup::{lookup, run_view, run_view_number, LookupAnswer, PostingReader};
+pub use page::{page, read_page, PageAnswer};
 pub use step::{blocks_filled, due_write, step, step_limit, what_remains, StepAnswer};

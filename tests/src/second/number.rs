@@ -11,3 +11,4 @@ pub const BATCH_ORDER: u32 = 7;
 pub const NO_PLACE_LEFT: u32 = 8;
 pub const QUESTION: u32 = 9;
 pub const ANSWER_WORDS: u32 = 10;
+pub const PAGE_MEMORY: u32 = 11;
