@@ -1,5 +1,5 @@
-/* What the benchmarks share: the largest card, filled in several ways, a batch
- * for it, and the clock. */
+/* What the benchmarks share: the largest card, filled in several ways, where a
+ * term stands on it, a batch for it, and the clock. */
 #define _POSIX_C_SOURCE 200809L
 
 #include "bench.h"
@@ -15,11 +15,19 @@ void give_up(const char *what) {
     exit(1);
 }
 
-uint32_t *words_for(size_t count) {
-    uint32_t *words = calloc(count, sizeof *words);
-    if (words == NULL)
+static void *zeros(size_t count, size_t size) {
+    void *memory = calloc(count, size);
+    if (memory == NULL)
         give_up("no memory");
-    return words;
+    return memory;
+}
+
+uint32_t *words_for(size_t count) {
+    return zeros(count, sizeof(uint32_t));
+}
+
+uint8_t *bytes_for(size_t count) {
+    return zeros(count, 1);
 }
 
 double seconds(void) {
@@ -62,6 +70,17 @@ void start_card(uint32_t *card, uint32_t live) {
     card[GI_CONFIG_OLD_LENGTH] = live;
 }
 
+/* Writes the map entry of a place whose block is filled. */
+static void enter(uint32_t *card, uint32_t place) {
+    const uint32_t *block = block_at(card, place);
+    memcpy(map_entry_at(card, place), (const uint32_t[]){block[0], block[2]}, sizeof(uint32_t[2]));
+}
+
+static void must_be_sound(const uint32_t *card) {
+    if (gi_judge(card, CARD_WORDS) != GI_DONE)
+        give_up("the filled card is not sound");
+}
+
 /* The positions of the first term, so that a full card has some 28,000 terms. */
 static uint32_t most_frequent(uint32_t live) {
     return 90 * live;
@@ -83,7 +102,7 @@ uint32_t fill_zipf(uint32_t *card, uint32_t live) {
             block[at] = term;
             block[at + 1] = count;
             for (uint32_t i = 0; i < count; i++)
-                block[at + 2 + i] = 3 * (done + i) + term % 100 + 1;
+                block[at + 2 + i] = APART * (done + i) + term % 100 + 1;
             at += 2 + count;
             done += count;
             if (count == wanted) {
@@ -91,11 +110,46 @@ uint32_t fill_zipf(uint32_t *card, uint32_t live) {
                 done = 0;
             }
         }
-        memcpy(map_entry_at(card, place), (const uint32_t[]){block[0], block[2]}, sizeof(uint32_t[2]));
+        enter(card, place);
     }
-    if (gi_judge(card, CARD_WORDS) != GI_DONE)
-        give_up("the filled card is not sound");
+    must_be_sound(card);
     return term;
+}
+
+void fill_one_term(uint32_t *card, uint32_t live, uint32_t term, uint32_t first) {
+    enum { POSITIONS = BLOCK_WORDS - 2 }; /* of a block */
+    start_card(card, live);
+    for (uint32_t k = 0; k < live; k++) {
+        uint32_t place = (OLD_START + k) % PLACES;
+        uint32_t *block = block_at(card, place);
+        block[0] = term;
+        block[1] = POSITIONS;
+        for (uint32_t i = 0; i < POSITIONS; i++)
+            block[2 + i] = first + APART * (k * POSITIONS + i);
+        enter(card, place);
+    }
+    must_be_sound(card);
+}
+
+/* ---- where a term stands */
+
+uint32_t entry_of(const uint32_t *block, uint32_t term) {
+    for (uint32_t at = 0; at + 3 <= BLOCK_WORDS && block[at] != 0; at += 2 + block[at + 1])
+        if (block[at] == term)
+            return at;
+    return BLOCK_WORDS;
+}
+
+struct holders holders_of(uint32_t *card, uint32_t term) {
+    struct holders places = {0, 0};
+    for (uint32_t k = 0; k < LIVE_PLACES; k++) {
+        uint32_t place = (OLD_START + k) % PLACES;
+        if (entry_of(block_at(card, place), term) == BLOCK_WORDS)
+            continue;
+        if (places.count++ == 0)
+            places.first = place;
+    }
+    return places;
 }
 
 /* ---- a step undone */
@@ -117,7 +171,7 @@ void put_back(uint32_t *card, const struct before *words) {
 
 /* ---- the batch */
 
-enum { REMOVED = 3, REMOVED_FIRST = 100, APART = 3 };
+enum { REMOVED = 3, REMOVED_FIRST = 100 };
 
 /* A number by chance, the same in every run. */
 static uint32_t chance(uint32_t *state) {

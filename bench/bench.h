@@ -1,5 +1,5 @@
-/* What the benchmarks share: the largest card, filled in several ways, a batch
- * for it, and the clock. */
+/* What the benchmarks share: the largest card, filled in several ways, where a
+ * term stands on it, a batch for it, and the clock. */
 #ifndef BENCH_H
 #define BENCH_H
 
@@ -14,14 +14,16 @@ enum {
     LIVE_PLACES = PLACES - 1, /* of a full card */
     CARD_WORDS = GI_CARD_WORDS_MAX,
     OLD_START = 700, /* so that the segment goes around the circle */
+    APART = 3,       /* how far a term's positions are apart */
     BATCH_WORDS = GI_BATCH_RECORDS_MAX * GI_RECORD_WORDS
 };
 
 /* Says what went wrong and ends the benchmark. */
 void give_up(const char *what);
 
-/* Memory for count words; never NULL. */
+/* Memory for count words or bytes; never NULL. */
 uint32_t *words_for(size_t count);
+uint8_t *bytes_for(size_t count);
 
 double seconds(void);
 
@@ -39,9 +41,23 @@ uint32_t *map_entry_at(uint32_t *card, uint32_t place);
  * the places still have to be filled. */
 void start_card(uint32_t *card, uint32_t live);
 
+/* Where a term's entry stands in a block; BLOCK_WORDS where there is none. */
+uint32_t entry_of(const uint32_t *block, uint32_t term);
+
+/* The live places that hold a term: how many, and which is the first. */
+struct holders {
+    uint32_t first;
+    uint32_t count;
+};
+
+/* Finds them on a full card. */
+struct holders holders_of(uint32_t *card, uint32_t term);
+
+/* Fills the live places with one term, from its first position on. */
+void fill_one_term(uint32_t *card, uint32_t live, uint32_t term, uint32_t first);
+
 /* Fills the live places with terms whose frequency is that of a Zipf law: term t
- * has 1/t of the first term's positions, and at least one. Positions of a term
- * are three apart. Gives the last term. */
+ * has 1/t of the first term's positions, and at least one. Gives the last term. */
 uint32_t fill_zipf(uint32_t *card, uint32_t live);
 
 /* Makes a batch of 4,096 records for such a card. Each is about a live pair

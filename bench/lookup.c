@@ -41,32 +41,6 @@ static double timed_read(const uint32_t *card, uint32_t term, uint32_t *answer, 
     return took;
 }
 
-/* The live places that hold a term: how many, and which is the first. */
-struct holders {
-    uint32_t first;
-    uint32_t count;
-};
-
-/* Where a term's entry stands in a block; BLOCK_WORDS where there is none. */
-static uint32_t entry_of(const uint32_t *block, uint32_t term) {
-    for (uint32_t at = 0; at + 3 <= BLOCK_WORDS && block[at] != 0; at += 2 + block[at + 1])
-        if (block[at] == term)
-            return at;
-    return BLOCK_WORDS;
-}
-
-static struct holders holders_of(uint32_t *card, uint32_t term) {
-    struct holders places = {0, 0};
-    for (uint32_t k = 0; k < LIVE_PLACES; k++) {
-        uint32_t place = (OLD_START + k) % PLACES;
-        if (entry_of(block_at(card, place), term) == BLOCK_WORDS)
-            continue;
-        if (places.count++ == 0)
-            places.first = place;
-    }
-    return places;
-}
-
 /* Moves a term's positions to the answer, told where they stand; nothing is
  * judged and nothing searched but each block's entries. */
 static uint32_t move_positions(uint32_t *card, struct holders places, uint32_t term, uint32_t *answer) {
@@ -125,21 +99,6 @@ static void show(const char *what, struct times times) {
     putchar('\n');
 }
 
-/* Fills the card with one term. */
-static void fill_one_term(uint32_t *card) {
-    enum { POSITIONS = BLOCK_WORDS - 2 };
-    start_card(card, LIVE_PLACES);
-    for (uint32_t k = 0; k < LIVE_PLACES; k++) {
-        uint32_t place = (OLD_START + k) % PLACES;
-        uint32_t *block = block_at(card, place);
-        block[0] = 1;
-        block[1] = POSITIONS;
-        for (uint32_t i = 0; i < POSITIONS; i++)
-            block[2 + i] = 3 * (k * POSITIONS + i) + 1;
-        memcpy(map_entry_at(card, place), (const uint32_t[]){block[0], block[2]}, sizeof(uint32_t[2]));
-    }
-}
-
 int main(void) {
     uint32_t *card = words_for(CARD_WORDS);
     uint32_t *answer = words_for(CARD_WORDS);
@@ -159,7 +118,7 @@ int main(void) {
            "lookup ns", "reader ns", "plain C", "lookup/C", "reader/C");
     for (size_t i = 0; i < sizeof terms / sizeof *terms; i++)
         show(terms[i].what, time_term(card, terms[i].term, answer, read_answer, plain_answer));
-    fill_one_term(card);
+    fill_one_term(card, LIVE_PLACES, 1, 1);
     show("one term, whole card", time_term(card, 1, answer, read_answer, plain_answer));
     free(plain_answer);
     free(read_answer);

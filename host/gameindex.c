@@ -130,6 +130,7 @@ static const struct command commands[] = {
     {"format", "CARD B N", 3, 0, "make an empty index of N places of B words", run_format},
     {"apply", "CARD BATCH", 2, 0, "apply a file of batch words, or - for standard input", run_apply},
     {"lookup", "CARD TERM [FROM TO]", 2, 2, "show a term's running numbers, all or those in a range", run_lookup},
+    {"page", "CARD TERM [FROM TO]", 2, 2, "write the same as a page of text, five to a line", run_page},
     {"judge", "CARD", 1, 0, "say whether the card is sound", run_judge},
     {"show", "CARD", 1, 0, "show the configuration words and the live places", run_show},
 };

@@ -1,4 +1,5 @@
-/* Looks up the running numbers of a term in a card file. */
+/* Answers questions about a term of a card file: its running numbers one to a
+ * line, or as a page. */
 #include "lookup.h"
 
 #include <inttypes.h>
@@ -17,7 +18,10 @@ struct question {
     uint32_t to;
 };
 
-/* Asks a card and shows the answer, one running number to a line. */
+/* Asks a card, shows what it answers and gives the exit status. */
+typedef int answer_function(const struct card_file *card, struct question asked);
+
+/* Shows the answer one running number to a line, and its counts. */
 static int look_up(const struct card_file *card, struct question asked) {
     /* no card holds as many positions as it has words */
     uint32_t *answer = malloc((card->length + 1) * sizeof *answer);
@@ -42,7 +46,28 @@ static int look_up(const struct card_file *card, struct question asked) {
     return status;
 }
 
-int run_lookup(char **words) {
+/* Writes the answer as a page. Standard output has the page and nothing else. */
+static int write_page(const struct card_file *card, struct question asked) {
+    /* never too short: each position of an answer is a word of the card, no word
+     * is two of them, and more positions never have a shorter page */
+    size_t page_len = gi_page_bytes(card->length);
+    /* one byte more, so that an empty file has memory too */
+    uint8_t *page = malloc(page_len + 1);
+    if (page == NULL)
+        return fault(card->path, "no memory for %zu bytes", page_len);
+    uint32_t lines;
+    uint32_t number = gi_page(card->words, card->length, asked.term, asked.from, asked.to, page, page_len, &lines);
+    int status = EXIT_DONE;
+    if (number != GI_DONE)
+        status = refused_on(stderr, card->path, number);
+    else
+        fwrite(page, GI_PAGE_LINE_BYTES, lines, stdout);
+    free(page);
+    return status;
+}
+
+/* Reads a question from the words of a command and has its card answer it. */
+static int ask(char **words, answer_function *answer) {
     struct question asked = {.ranged = words[2] != NULL, .from = GI_LOWEST, .to = GI_HIGHEST};
     if (!parse_word(words[1], &asked.term) ||
         (asked.ranged && (!parse_word(words[2], &asked.from) || !parse_word(words[3], &asked.to)))) {
@@ -53,7 +78,15 @@ int run_lookup(char **words) {
     int status = card_open(&card, words[0], false);
     if (status != EXIT_DONE)
         return status;
-    status = look_up(&card, asked);
+    status = answer(&card, asked);
     card_close(&card);
     return status;
+}
+
+int run_lookup(char **words) {
+    return ask(words, look_up);
+}
+
+int run_page(char **words) {
+    return ask(words, write_page);
 }

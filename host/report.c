@@ -22,15 +22,20 @@ static const char *const meanings[] = {
     [GI_CARD_FULL] = "the card is full: the next block would leave no place free",
     [GI_LOOKUP_RANGE] = "term and from must be at least 1, and from at most to",
     [GI_LOOKUP_ANSWER] = "the answer has fewer words than there are positions",
+    [GI_PAGE_MEMORY] = "the page memory is shorter than the page",
 };
 
 static const char *meaning(uint32_t number) {
     return number < sizeof meanings / sizeof *meanings ? meanings[number] : "a number without a meaning here";
 }
 
-int refused(const char *path, uint32_t number) {
-    printf("%s: refused, number %" PRIu32 ": %s\n", path, number, meaning(number));
+int refused_on(FILE *out, const char *path, uint32_t number) {
+    fprintf(out, "%s: refused, number %" PRIu32 ": %s\n", path, number, meaning(number));
     return EXIT_REFUSED;
+}
+
+int refused(const char *path, uint32_t number) {
+    return refused_on(stdout, path, number);
 }
 
 int verdict(const char *path, uint32_t number) {

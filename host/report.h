@@ -4,9 +4,13 @@
 
 #include <stdbool.h>
 #include <stdint.h>
+#include <stdio.h>
 
-/* Shows a refusal's number and gives the exit status for it. */
+/* Shows a refusal's number on standard output and gives the exit status for it. */
 int refused(const char *path, uint32_t number);
+
+/* The same on another stream, where standard output is not for messages. */
+int refused_on(FILE *out, const char *path, uint32_t number);
 
 /* Shows the judge's number and gives the exit status for it. */
 int verdict(const char *path, uint32_t number);

@@ -205,6 +205,73 @@ check 'it names number 4' grep -q 'number 4:' out
 run 1 'look up in an empty file' lookup empty.card 5
 check 'lookups change nothing' cmp -s case1.card before.card
 
+# ---- page
+
+page() { # PAGE WHAT CARD TERM..: the page, byte for byte, and nothing else is shown
+    run 0 "$2" page "${@:3}"
+    check "$2: the page" cmp -s out <(printf %s "$1")
+    check "$2: no message" [ ! -s err ]
+}
+no_page() { # NUMBER WHAT CARD TERM..: refused, with the lookup's message on standard error alone
+    run 1 "$2, looked up" lookup "${@:3}"
+    mv out said
+    run 1 "$2" page "${@:3}"
+    check "$2: no page" [ ! -s out ]
+    check "$2: it names number $1" grep -q "number $1:" err
+    check "$2: the message" cmp -s err said
+}
+faulty_page() { # WHAT WORDS..: at fault, with a message on standard error alone
+    run 2 "$1" page "${@:2}"
+    check "$1: the message is on stderr" [ -s err -a ! -s out ]
+}
+run 0 'format a card for pages' format page.card 8 6
+batch page.batch 1 5 7 7 1 6 2 2 1 6 30 30 1 6 400 400 1 6 5000 5000 1 6 60000 60000 \
+    1 4294967295 1 1 1 4294967295 9 9 1 4294967295 10 10 1 4294967295 4294967293 4294967293 \
+    1 4294967295 4294967294 4294967294 1 4294967295 4294967295 4294967295
+run 0 'add its postings' apply page.card page.batch
+cp page.card before.card
+page $'         5          7                                            \n' \
+    'a page of one posting' page.card 5
+page $'         6          2         30        400       5000      60000\n' \
+    'a page of five' page.card 6
+page $'4294967295          1          9         10 4294967293 4294967294\n'\
+$'           4294967295                                            \n' \
+    'a page of six, with the highest numbers' page.card 4294967295
+cp out six
+run 0 'the same with its range' page page.card 4294967295 1 4294967295
+check 'it is the same page' cmp -s out six
+page $'         6         30        400       5000                      \n' \
+    'a page of a range' page.card 6 30 5000
+page $'         6         30        400       5000                      \n' \
+    'a page of a range whose ends are no postings' page.card 6 3 5001
+page $'4294967295          9         10 4294967293 4294967294 4294967295\n' \
+    'a page from the second to the last' page.card 4294967295 9 4294967295
+page '' 'a page of a range without postings' page.card 6 31 399
+page '' 'a page of a term without postings' page.card 7
+page '' 'a page of an empty index' new.card 5
+no_page 9 'a page of term 0' page.card 0
+no_page 9 'a page from 0' page.card 6 0 9
+no_page 9 'a page from above to' page.card 6 9 8
+no_page 4 'a page of a damaged card' live.card 5
+no_page 4 'a page of term 0 of a damaged card' live.card 0
+no_page 1 'a page of an empty file' empty.card 5
+no_page 1 'a page of a file longer than any card' longer.card 5
+cp page.card wrong.card
+set_word wrong.card 1 7
+no_page 3 'a page of a card with B too small' wrong.card 6
+set_word wrong.card 0 2
+no_page 2 'a page of a card of another format' wrong.card 6
+check 'pages change nothing' cmp -s page.card before.card
+
+# many postings, in several blocks: more bytes than standard output keeps before it writes
+run 0 'format a card for a long page' format long.card 64 12
+seq 320 | awk '{ print 1, 5, $1 * $1, $1 * $1 }' | xargs "$to_words" >long.batch
+run 0 'add its postings' apply long.card long.batch
+run 0 'a long page' page long.card 5
+check 'it has 64 lines of 65 bytes' [ "$(grep -Ec '^.{65}$' out)" -eq 64 -a "$(stat -c %s out)" -eq 4224 ]
+check 'its term, on the first line only' [ "$(cut -c1-10 out | uniq -c | tr -s ' \n' ' ')" = ' 1 5 63 ' ]
+check 'its positions, read back from their columns' cmp -s <(cut -c11- out | fold -w 11 | tr -d ' ') <(seq 320 | awk '{ print $1 * $1 }')
+
 # one run at a time writes a card, and none reads it meanwhile
 mkfifo wait.batch
 "$program" apply case1.card - <wait.batch >/dev/null 2>&1 &
@@ -217,6 +284,7 @@ for _ in $(seq 100); do
 done
 run 2 'judge a card in use' judge case1.card
 run 2 'look up in a card in use' lookup case1.card 5
+faulty_page 'a page of a card in use' case1.card 5
 run 2 'apply to a card in use' apply case1.card one.batch
 check 'the message names the use' grep -q 'in use' err
 exec 3>&-
@@ -250,9 +318,20 @@ run 2 'look up without a term' lookup case1.card
 run 2 'look up with half a range' lookup case1.card 5 1
 run 2 'look up with a word too many' lookup case1.card 5 1 9 9
 run 2 'look up in a file that is not there' lookup none.card 5
+faulty_page 'a page of a term that is no number' case1.card five
+faulty_page 'a page of a term over 32 bits' case1.card 4294967296
+faulty_page 'a page from no number' case1.card 5 one 9
+faulty_page 'a page to no number' case1.card 5 1 -9
+faulty_page 'a page without a card'
+faulty_page 'a page without a term' case1.card
+faulty_page 'a page with half a range' case1.card 5 1
+faulty_page 'a page with a word too many' case1.card 5 1 9 9
+faulty_page 'a page of a file that is not there' none.card 5
+faulty_page 'a page of three bytes' odd.card 5
 run 2 'an unknown command' frobnicate new.card
 run 2 'no command'
 run 0 'help' help
+check 'six commands, in columns' [ "$(grep -Ec '^  [a-z ]{7} [][A-Z ]{20} [a-z]' out)" -eq 6 ]
 
 echo "$passed passed, $failed failed"
 [ "$failed" -eq 0 ]

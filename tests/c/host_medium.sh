@@ -137,6 +137,7 @@ shown() { # COMMAND WORDS..
 shown judge
 shown show
 shown lookup 8
+shown page 8
 FAIL_SYNC=1 FAIL_ERROR=22 run_now 2 'apply where there are no syncs' apply now/card grow.batch
 FAIL_SYNC=2 FAIL_ERROR=22 run_now 0 'apply where folders have no syncs' apply now/card grow.batch
 
