@@ -5,7 +5,7 @@ use native.Mathlib.Omega.{arith}
 use mathlib.Core.Path.{_≡_, refl, sym, ap, _∙_}
 use mathlib.Core.List.{List, [], _∷_, _++_, append-assoc, append-nil}
 use lib.ListN.{length, replicate, set, length-replicate, length-set, replicate-append-replicate}
-use lib.Seq.{sets, set-comm, length-sets}
+use lib.Seq.{sets, set-set, set-comm, length-sets}
 use Rattle.pair.specs.Rank.{wordLimit}
 use Rattle.card.proofs.Parts.{sets-append}
 use Rattle.page.specs.Figures.{blank, figure, decimal, column}
@@ -18,10 +18,13 @@ set-sets [] l q p a h = refl
 set-sets (v ∷ vs) l q p a h =
     set-sets vs (set l q v) (suc q) p a (omega arith) ∙ ap (λ k. sets k (suc q) vs) (set-comm l q p v a (λ e. omega arith))
 
--- and so may bytes
-sets-sets : (us vs l : List ℕ) (p q : ℕ) → p + length us ≤ q → sets (sets l q vs) p us ≡ sets (sets l p us) q vs
-sets-sets [] vs l p q h = refl
-sets-sets (u ∷ us) vs l p q h = rw (set-sets vs l q p u (omega arith)) (sets-sets us vs (set l p u) (suc p) q (omega arith))
+-- of bytes written twice the second stand
+sets-over : (us vs l : List ℕ) (p : ℕ) → length us ≡ length vs → sets (sets l p us) p vs ≡ sets l p vs
+sets-over [] [] l p h = refl
+sets-over [] (v ∷ vs) l p h = absurd (omega arith)
+sets-over (u ∷ us) [] l p h = absurd (omega arith)
+sets-over (u ∷ us) (v ∷ vs) l p h =
+    rw (set-sets us (set l p u) (suc p) p v (omega arith), set-set l p u v) (sets-over us vs (set l p v) (suc p) (omega arith))
 
 -- j of count blanks are written
 pub record Blanking (l : List ℕ) (at count : ℕ) (now : List ℕ) (j : ℕ) : Type 0 where
@@ -104,18 +107,21 @@ module _ {l now : List ℕ} {at n before rest b : ℕ} (g : Figuring l at n now 
         same = written-same;
       }
 
-  -- with blanks before the figures the column stands
-  pub figuring-end : rest / 10 ≡ 0 → {after : List ℕ} → after ≡ sets written at (replicate (before - 1) blank) → after ≡ sets l at (column n)
+  -- over ten blanks the figures make the column
+  pub figuring-end : rest / 10 ≡ 0 → (k : List ℕ) → l ≡ sets k at (replicate 10 blank) → written ≡ sets k at (column n)
   unfolding column
-  figuring-end h e =
+  figuring-end h k e =
       let figures = b ∷ g .done in
       let whole : decimal n ≡ figures = rw (leading-none (rest / 10) h) at figures-then in
       let width : 10 - length figures ≡ before - 1 = omega (arith, g .count) in
       let blanks = replicate (before - 1) blank in
+      let under = replicate (length figures) blank in
+      let ten : before - 1 + length figures ≡ 10 = omega (arith, g .count, g .some) in
       let long : length blanks ≡ before - 1 = length-replicate (before - 1) blank in
+      let all : replicate 10 blank ≡ blanks ++ under = ap (λ i. replicate i blank) (sym ten) ∙ sym (replicate-append-replicate (before - 1) (length figures) blank) in
       rw (whole, width)
-      (e
-      ∙ ap (λ m. sets m at blanks) written-same
-      ∙ sets-sets blanks figures l at (at + (before - 1)) (omega arith)
-      ∙ ap (λ i. sets (sets l at blanks) (at + i) figures) (sym long)
-      ∙ sym (sets-append blanks figures l at))
+      (written-same
+      ∙ ap (λ i. sets i (at + (before - 1)) figures) (e ∙ ap (sets k at) all ∙ sets-append blanks under k at)
+      ∙ ap (λ i. sets (sets (sets k at blanks) (at + length blanks) under) (at + i) figures) (sym long)
+      ∙ sets-over under figures (sets k at blanks) (at + length blanks) (length-replicate (length figures) blank)
+      ∙ sym (sets-append blanks figures k at))

@@ -27,11 +27,12 @@ fn put_blanks(memory: &mut [u8], at: usize, count: usize)
     }
 }
 
-// Writes a number right-aligned in ten columns: its figures from the last on, then the blanks before them.
+// Writes a number right-aligned in ten columns: ten blanks, and over them its figures from the last on.
 fn put_column(memory: &mut [u8], at: usize, n: u32)
     requires { ⌜ at + 10 ≤ length (now memory) ⌝ }
     ensures { λ _. ⌜ now (memory .exit) ≡ sets (now (memory .entry)) at (column n) ⌝ }
 {
+    put_blanks(memory, at, 10);
     let mut before: usize = 10;
     let mut rest = n;
     loop {
@@ -39,7 +40,6 @@ fn put_column(memory: &mut [u8], at: usize, n: u32)
         memory[at + before] = last_figure(rest);
         rest = rest / 10;
         if rest == 0 {
-            put_blanks(memory, at, before);
             return;
         }
     }

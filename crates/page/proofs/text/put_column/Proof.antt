@@ -1,7 +1,7 @@
 -- `page::text::put_column` meets its contract. The invariant: the last figures are written, those of rest are not.
 use native.Mathlib.Omega.{arith}
 use mathlib.Core.Path.{ap, _∙_}
-use lib.ListN.{length, length-set}
+use lib.ListN.{length}
 use lib.Seq.{length-sets}
 use Rattle.page.proofs.Columns.{Figuring, figuring-start, figuring-length, figuring-turn, figuring-end}
 use borrow.Author.Needs.{needs}
@@ -13,6 +13,9 @@ Inv-loop memory₀ at n before₀ rest₀ memory before rest = Figuring memory�
 
 abbrev μ-loop : tie.MeasureT-loop
 μ-loop memory₀ at n before₀ rest₀ memory before rest = rest
+
+put-blanks-requires : tie.Need-put-blanks-requires Inv-loop μ-loop
+put-blanks-requires c κs = search needs
 
 loop-holds : tie.Need-loop-holds Inv-loop μ-loop
 loop-holds c = figuring-start _ _ _ (omega arith)
@@ -27,15 +30,15 @@ add-memory : tie.Need-add-memory Inv-loop μ-loop
 add-memory c = search needs
 
 slice-write-memory : tie.Need-slice-write-memory Inv-loop μ-loop
-slice-write-memory c = let g = c .before .loop .inv in omega (arith, figuring-length g, g .count, g .some)
-
-put-blanks-requires : tie.Need-put-blanks-requires Inv-loop μ-loop
-put-blanks-requires c κs = let g = c .before .before .before .loop .inv in rw length-set (omega (arith, figuring-length g, g .count))
+slice-write-memory c =
+    let g = c .before .loop .inv in
+    omega (arith, figuring-length g, c .before .before .before .memory .given, g .count, g .some)
 
 returns : tie.Need-returns Inv-loop μ-loop
 returns c =
-    let t = c .before .before .before .before in
-    figuring-end (t .before .before .loop .inv) (t .before .last-figure .ensures) (t .if1 .taken) (c .before .before .put-blanks .ensures)
+    let l = c .before .before in
+    let p = l .before .before .before in
+    figuring-end (l .loop .inv) (c .before .last-figure .ensures) (c .if1 .taken) (p .before .before .before .args .memory .now) (p .put-blanks .ensures)
 
 same-length : tie.Need-same-length Inv-loop μ-loop
 same-length c = ap length (returns c) ∙ simp length-sets
@@ -52,12 +55,12 @@ put-column-spec =
     (tie.spec
     Inv-loop
     μ-loop
+    put-blanks-requires
     loop-holds
     sub-before
     last-figure-requires
     add-memory
     slice-write-memory
-    put-blanks-requires
     same-length
     returns
     loop-less
