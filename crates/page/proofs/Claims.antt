@@ -1,23 +1,26 @@
 -- The claims of a page.
-use Prim.Native.Nat.{ℕ, _+_, _*_, _≤_, _<_}
+use Prim.Native.Nat.{_*_, _<_}
 use native.Mathlib.Omega.{arith}
-use mathlib.Core.Path.{_≡_, refl, sym, ap, _∙_}
-use mathlib.Core.List.{List}
-use lib.ListN.{length, take, drop}
+use mathlib.Core.Path.{_≡_, sym, ap, _∙_}
+use lib.ListN.{length, take}
 use lib.Seq.{sets}
-use Rattle.pair.specs.Rank.{wordLimit, Words}
+use Rattle.pair.specs.Rank.{Words}
 use Rattle.card.proofs.Parts.{part-sets-same, part-sets-after}
 use Rattle.found.specs.Found.{found}
-use Rattle.page.specs.Page.{lineCount, page, pageNumber, printed}
-use Rattle.page.specs.ReadBack.{positionsIn, termIn, lineFeedsIn}
-use Rattle.page.specs.Claims.{NumbersFit, PageReadBack, PagesDiffer}
+use Rattle.page.specs.Page.{lineCount, page, pageNumber}
+use Rattle.page.specs.ReadBack.{positionsIn, termIn}
+use Rattle.page.specs.Claims.{NumbersFit, LinesAlike, PageReadBack, PagesDiffer}
 use Rattle.page.proofs.Figures.{decimal-few}
-use Rattle.page.proofs.ReadBack.{page-length, page-positions, page-term, page-feeds}
+use Rattle.page.proofs.ReadBack.{line-length, page-length, page-positions, page-term, page-feeds}
 use Rattle.page.proofs.Printing.{found-words, printed-done, printed-number, page-room}
 
 pub numbersFit : NumbersFit
 unfolding NumbersFit
 numbersFit = decimal-few
+
+pub linesAlike : LinesAlike
+unfolding LinesAlike
+linesAlike t ps i ht ws = line-length t ps ht ws i
 
 pub pageReadBack : PageReadBack
 unfolding PageReadBack

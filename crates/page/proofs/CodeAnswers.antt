@@ -1,13 +1,11 @@
 -- What the code answers, refused or not.
 use Prim.Native.Nat.{ℕ, _+_, _*_, _/_, _≤_, _<_}
-use native.Mathlib.Omega.{arith}
 use mathlib.Core.Path.{_≡_, refl, sym, ap, _∙_}
 use mathlib.Core.Bool.{Bool, true, false}
 use mathlib.Core.List.{List}
 use borrow.Author.Tests.{eq-eqb, ne-eqb, eqb-true, lt-ltb, le-ltb}
 use lib.ListN.{length}
-use lib.Seq.{sets}
-use lib.Dec.{eqb, ltb}
+use lib.Dec.{eqb}
 use Rattle.pair.specs.Rank.{wordLimit}
 use Rattle.pair.specs.Tests.{firstOf}
 use Rattle.found.specs.Found.{found, questionNumber}

@@ -1,10 +1,9 @@
 -- Blanks and columns, written byte by byte.
 use Prim.Native.Nat.{ℕ, zero, suc, _+_, _-_, _/_, _%_, _^_, _≤_, _<_, zero-le}
-use native.Mathlib.Numerals.{add-one}
 use native.Mathlib.Omega.{arith}
 use mathlib.Core.Path.{_≡_, refl, sym, ap, _∙_}
 use mathlib.Core.List.{List, [], _∷_, _++_, append-assoc, append-nil}
-use lib.ListN.{length, replicate, set, length-replicate, length-set, replicate-append-replicate}
+use lib.ListN.{length, replicate, set, length-replicate, replicate-append-replicate}
 use lib.Seq.{sets, set-set, set-comm, length-sets}
 use Rattle.pair.specs.Rank.{wordLimit}
 use Rattle.card.proofs.Parts.{sets-append}

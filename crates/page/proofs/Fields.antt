@@ -4,7 +4,7 @@ use native.Mathlib.Numerals.{add-one}
 use native.Mathlib.Omega.{arith}
 use mathlib.Core.Path.{_≡_, refl, sym, ap, _∙_}
 use mathlib.Core.Bool.{Bool, true, false, cond}
-use mathlib.Core.List.{List, [], _∷_, _++_, map}
+use mathlib.Core.List.{List, [], _∷_, map}
 use borrow.Author.Tests.{lt-ltb, le-ltb}
 use lib.ListN.{length, replicate, getD, set}
 use lib.Seq.{sets, length-sets}
@@ -18,8 +18,8 @@ use Rattle.reader.specs.declared.Yield.the-variants.{Posting, End}
 use Rattle.reader.specs.declared.cursor.Cursor.{Cursor}
 use Rattle.reader.specs.declared.cursor.Step.{Step}
 use Rattle.reader.specs.Reader.{allYielded, posting, ended, yielded, yieldOf}
-use Rattle.reader.specs.code.Cursor.{CursorAfter, CursorStep}
-use Rattle.page.specs.Figures.{blank, column, noColumn}
+use Rattle.reader.specs.code.Cursor.{CursorStep}
+use Rattle.page.specs.Figures.{blank, column}
 use Rattle.page.specs.Page.{joined, field}
 use Rattle.page.specs.code.Putting.{fieldOf, fieldsFrom, FieldsPut}
 use Rattle.page.proofs.Joining.{joined-length}
@@ -86,7 +86,7 @@ fielding-turn {c} {l} {now} {after} {v} {r} {at} {j} {s} g h x e =
                 let before = fieldsFrom all n j in
                 let width : length before ≡ 11 * j = joined-length (λ i. field all (n + i)) 11 j (λ i k. field-length all (n + i) (yielded-words c t a z)) in
                 let shows : fieldOf (yieldOf (s .yielded)) ≡ field all (n + j) =
-                    ap fieldOf (x .yields t a z (n + j) (g .done .after t a z n q)) ∙ field-of all (n + j) in
+                ap fieldOf (x .yields t a z (n + j) (g .done .after t a z n q)) ∙ field-of all (n + j) in
                 e
                 ∙ ap (sets now (at + 11 * j)) shows
                 ∙ ap (λ m. sets m (at + 11 * j) (field all (n + j))) (g .done .put t a z n q)

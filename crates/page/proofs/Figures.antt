@@ -4,13 +4,13 @@ use native.Mathlib.Omega.{arith}
 use mathlib.Core.Path.{_≡_, refl, sym, ap, _∙_}
 use mathlib.Core.Bool.{Bool, true, false, cond, not, _||_}
 use mathlib.Core.List.{List, [], _∷_, _++_, append-assoc}
-use borrow.Author.Tests.{lt-ltb, le-ltb, ltb-true, ltb-false, eq-eqb, ne-eqb}
+use borrow.Author.Tests.{ltb-true, ltb-false, eq-eqb, ne-eqb}
 use lib.ListN.{length, replicate, length-append, length-replicate}
 use lib.Dec.{ltb, eqb}
 use Rattle.pair.specs.Rank.{wordLimit}
 use Rattle.pair.specs.Rising.{keep, any}
 use Rattle.pair.proofs.Keep.{keep-append}
-use Rattle.page.specs.Figures.{blank, figure, lastFigures, decimal, columnWidth, column, noColumn}
+use Rattle.page.specs.Figures.{blank, figure, lastFigures, decimal, columnWidth, column}
 use Rattle.page.specs.Page.{lineFeed}
 use Rattle.page.specs.ReadBack.{numberFrom, numberIn, shown, lineFeedsIn}
 use Rattle.page.specs.code.Putting.{leading}
@@ -115,8 +115,8 @@ unfolding column
 column-some n =
     let before = replicate (columnWidth - length (decimal n)) blank ++ leading (n / 10) in
     let e : column n ≡ before ++ figure (n % 10) ∷ [] =
-        ap (λ l. replicate (columnWidth - length (decimal n)) blank ++ l) (decimal-last n)
-        ∙ sym (append-assoc (replicate (columnWidth - length (decimal n)) blank) (leading (n / 10)) (figure (n % 10) ∷ [])) in
+    ap (λ l. replicate (columnWidth - length (decimal n)) blank ++ l) (decimal-last n)
+    ∙ sym (append-assoc (replicate (columnWidth - length (decimal n)) blank) (leading (n / 10)) (figure (n % 10) ∷ [])) in
     rw e (any-last (λ b. not (eqb b blank)) before (figure (n % 10)) (rw (ne-eqb (figure (n % 10)) blank (λ z. omega arith))))
 
 pub column-shown : (n : ℕ) → shown (blank ∷ column n) ≡ n ∷ []

@@ -1,12 +1,12 @@
 -- Lists end to end: their length, their parts, and lists of lists.
 use Prim.Native.Nat.{ℕ, zero, suc, _+_, _*_, _≤_, _<_}
 use native.Mathlib.Omega.{arith}
-use mathlib.Core.Path.{_≡_, refl, sym, ap, _∙_}
+use mathlib.Core.Path.{_≡_, refl, _∙_}
 use mathlib.Core.Bool.{Bool, true, false, cond}
 use mathlib.Core.List.{List, [], _∷_, _++_, append-assoc, append-nil}
-use borrow.Author.Tests.{ltb-true, ltb-false, lt-ltb, le-ltb}
+use borrow.Author.Tests.{ltb-true, ltb-false}
 use lib.ListN.{length, take, drop, getD, length-append}
-use lib.Seq.{take-suc, take-at, drop-at, take-all, take-append-le, drop-append-le}
+use lib.Seq.{take-suc, take-at, drop-at, take-all}
 use lib.Dec.{ltb}
 use Rattle.page.specs.Page.{joined}
 use Rattle.page.specs.ReadBack.{part, lineFeedsIn}

@@ -5,7 +5,7 @@ use native.Mathlib.Omega.{arith}
 use mathlib.Core.Path.{_≡_, refl, sym, ap, _∙_}
 use mathlib.Core.List.{List, [], _∷_, _++_}
 use lib.ListN.{length, set, length-append}
-use lib.Seq.{sets, length-sets}
+use lib.Seq.{sets}
 use Rattle.pair.specs.Rank.{wordLimit}
 use Rattle.card.proofs.Parts.{sets-append}
 use Rattle.reader.specs.declared.cursor.Cursor.{Cursor}
@@ -32,10 +32,10 @@ line-put {c} {v} {r} l {m₁} {m₂} {t} i ht e f =
           let long : length head ≡ 10 = head-length t i ht in
           let both : length (head ++ fields) ≡ 65 = rw (length-append, long, fields-length t all ht (yielded-words c t a z) i) refl in
           let first : m₂ ≡ sets l at (head ++ fields) =
-              f .put t a z (5 * i) q
-              ∙ ap (λ m. sets m (at + 10) fields) e
-              ∙ ap (λ k. sets (sets l at head) (at + k) fields) (sym long)
-              ∙ sym (sets-append head fields l at) in
+          f .put t a z (5 * i) q
+          ∙ ap (λ m. sets m (at + 10) fields) e
+          ∙ ap (λ k. sets (sets l at head) (at + k) fields) (sym long)
+          ∙ sym (sets-append head fields l at) in
           ap (λ m. set m (at + 65) lineFeed) first
           ∙ ap (λ k. set (sets l at (head ++ fields)) (at + k) lineFeed) (sym both)
           ∙ sym (sets-append (head ++ fields) (lineFeed ∷ []) l at);

@@ -1,20 +1,19 @@
 -- What a page answers, refused or not.
-use Prim.Native.Nat.{ℕ, zero, suc, _+_, _*_, _≤_, _<_}
+use Prim.Native.Nat.{ℕ, zero, suc, _≤_}
 use native.Mathlib.Omega.{arith}
-use mathlib.Core.Path.{_≡_, refl, sym, ap, _∙_}
+use mathlib.Core.Path.{_≡_, refl, sym}
 use mathlib.Core.Bool.{Bool, true, false}
 use mathlib.Core.List.{List, [], _∷_, map}
-use borrow.Author.Tests.{eq-eqb, ne-eqb, eqb-true, lt-ltb, le-ltb, ltb-false}
+use borrow.Author.Tests.{eq-eqb, eqb-true, ltb-false}
 use lib.ListN.{length}
 use lib.Seq.{sets}
-use lib.Dec.{eqb, ltb}
-use Rattle.pair.specs.Rank.{wordLimit, rank, position, Words}
+use lib.Dec.{eqb}
+use Rattle.pair.specs.Rank.{rank, position, Words}
 use Rattle.pair.specs.Rising.{within}
-use Rattle.pair.specs.Tests.{firstOf}
 use Rattle.pair.proofs.FirstOf.{passed, handed-on}
 use Rattle.card.specs.Layout.{live}
 use Rattle.found.specs.Found.{found, questionNumber}
-use Rattle.page.specs.Page.{lineCount, page, pageNumber, Printed, printed}
+use Rattle.page.specs.Page.{lineCount, page, pageNumber, printed}
 
 -- what is found are words
 positions-words : (xs : List ℕ) → Words (map position xs)

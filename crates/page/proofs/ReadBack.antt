@@ -1,30 +1,22 @@
 -- A page read back: its postings, its term, its line feeds.
-use Prim.Native.Nat.{ℕ, zero, suc, _+_, _*_, _/_, _≤_, _<_}
+use Prim.Native.Nat.{ℕ, suc, _+_, _*_, _/_, _≤_, _<_}
 use native.Mathlib.Omega.{arith}
 use mathlib.Core.Path.{_≡_, refl, sym, ap, _∙_}
 use mathlib.Core.Bool.{Bool, true, false, cond}
 use mathlib.Core.List.{List, [], _∷_, _++_, append-assoc, append-nil}
-use borrow.Author.Tests.{lt-ltb, le-ltb, ltb-true, eqb-true}
-use lib.ListN.{length, take, drop, getD, length-append, length-replicate}
+use lib.ListN.{length, take, getD, length-append}
 use lib.Seq.{take-all, take-take, take-at, drop-at}
 use lib.Dec.{ltb, eqb}
 use Rattle.pair.specs.Rank.{wordLimit, Words}
 use Rattle.pair.specs.Rising.{any, keep}
 use Rattle.page.specs.Figures.{blank, column, noColumn}
 use Rattle.page.specs.Page.{lineFeed, joined, field, line, lineCount, page}
-use Rattle.page.specs.ReadBack.{numberIn, shown, part, positionsInLine, positionsIn, termIn, lineFeedsIn}
+use Rattle.page.specs.ReadBack.{shown, part, positionsInLine, positionsIn, termIn, lineFeedsIn}
+use Rattle.page.specs.code.Putting.{headOf, fieldsFrom}
 use Rattle.page.proofs.Figures.{column-length, column-number, column-shown, feeds-append, feeds-blanks, feeds-column}
 use Rattle.page.proofs.Joining.{joined-agree, joined-length, part-joined, joined-rows, single, joined-singles, feeds-joined}
 
--- what stands before the fields of a line
-abbrev pub head : ℕ → ℕ → List ℕ
-head t i = cond (eqb i 0) (column t) noColumn
-
--- the five fields of a line
-abbrev pub fields : List ℕ → ℕ → List ℕ
-fields ps i = joined (λ j. field ps (5 * i + j)) 5
-
-pub head-length : (t i : ℕ) → t < wordLimit → length (head t i) ≡ 10
+pub head-length : (t i : ℕ) → t < wordLimit → length (headOf t i) ≡ 10
 head-length t i h = go (eqb i 0)
   where
     go : (s : Bool) → length (cond s (column t) noColumn) ≡ 10
@@ -57,7 +49,7 @@ field-feeds ps k = go (ltb k (length ps))
     go true = feeds-column (getD ps k 0)
     go false = refl
 
-head-feeds : (t i : ℕ) → lineFeedsIn (head t i) ≡ 0
+head-feeds : (t i : ℕ) → lineFeedsIn (headOf t i) ≡ 0
 head-feeds t i = go (eqb i 0)
   where
     go : (s : Bool) → lineFeedsIn (cond s (column t) noColumn) ≡ 0
@@ -71,7 +63,7 @@ feed-alone = refl
 line-feeds : (t : ℕ) (ps : List ℕ) (i : ℕ) → lineFeedsIn (line t ps i) ≡ 1
 unfolding line
 line-feeds t ps i =
-    rw (feeds-append (head t i ++ fields ps i), feeds-append (head t i), head-feeds t i, feeds-joined (λ j. field ps (5 * i + j)) 0 5 (λ j. field-feeds ps (5 * i + j)), feed-alone)
+    rw (feeds-append (headOf t i ++ fieldsFrom ps (5 * i) 5), feeds-append (headOf t i), head-feeds t i, feeds-joined (λ j. field ps (5 * i + j)) 0 5 (λ j. field-feeds ps (5 * i + j)), feed-alone)
 
 -- the lines have room for all postings
 lines-enough : (ps : List ℕ) → length ps ≤ 5 * lineCount ps
@@ -87,7 +79,7 @@ unfolding page
 page-feeds t ps = feeds-joined (line t ps) 1 (lineCount ps) (line-feeds t ps) ∙ omega arith
 
 module _ (t : ℕ) (ps : List ℕ) (ht : t < wordLimit) (hs : Words ps) where
-  pub fields-length : (i : ℕ) → length (fields ps i) ≡ 55
+  pub fields-length : (i : ℕ) → length (fieldsFrom ps (5 * i) 5) ≡ 55
   fields-length i = joined-length (λ j. field ps (5 * i + j)) 11 5 (λ j l. field-length ps (5 * i + j) hs)
 
   pub line-length : (i : ℕ) → length (line t ps i) ≡ 66
@@ -102,11 +94,11 @@ module _ (t : ℕ) (ps : List ℕ) (ht : t < wordLimit) (hs : Words ps) where
   line-shown : (i : ℕ) → positionsInLine (line t ps i) ≡ joined (λ j. single ps (5 * i + j)) 5
   unfolding positionsInLine line
   line-shown i =
-      rw (append-assoc (head t i) (fields ps i) (lineFeed ∷ []), drop-at (head t i) (fields ps i ++ lineFeed ∷ []) 10 (head-length t i ht))
-      (joined-agree (λ j. shown (part 11 j (fields ps i ++ lineFeed ∷ []))) (λ j. single ps (5 * i + j)) 5
+      rw (append-assoc (headOf t i) (fieldsFrom ps (5 * i) 5) (lineFeed ∷ []), drop-at (headOf t i) (fieldsFrom ps (5 * i) 5 ++ lineFeed ∷ []) 10 (head-length t i ht))
+      (joined-agree (λ j. shown (part 11 j (fieldsFrom ps (5 * i) 5 ++ lineFeed ∷ []))) (λ j. single ps (5 * i + j)) 5
       (λ j l.
-        ap shown (part-joined (λ j. field ps (5 * i + j)) 11 5 j (lineFeed ∷ []) (λ k q. field-length ps (5 * i + k) hs) l)
-        ∙ field-shown ps (5 * i + j)))
+      ap shown (part-joined (λ j. field ps (5 * i + j)) 11 5 j (lineFeed ∷ []) (λ k q. field-length ps (5 * i + k) hs) l)
+      ∙ field-shown ps (5 * i + j)))
 
   -- the part of the page that is a line
   page-part : (i : ℕ) → i < lineCount ps → part 66 i (page t ps) ≡ line t ps i
@@ -132,7 +124,7 @@ module _ (t : ℕ) (ps : List ℕ) (ht : t < wordLimit) (hs : Words ps) where
   page-term l =
       let first : take 66 (page t ps) ≡ line t ps 0 = page-part 0 (lines-some ps l) in
       let columns : take 10 (page t ps) ≡ column t =
-          sym (take-take 10 66 (page t ps) (omega arith))
-          ∙ ap (take 10) (first ∙ append-assoc (column t) (fields ps 0) (lineFeed ∷ []))
-          ∙ take-at (column t) (fields ps 0 ++ lineFeed ∷ []) 10 (column-length t ht) in
+      sym (take-take 10 66 (page t ps) (omega arith))
+      ∙ ap (take 10) (first ∙ append-assoc (column t) (fieldsFrom ps 0 5) (lineFeed ∷ []))
+      ∙ take-at (column t) (fieldsFrom ps 0 5 ++ lineFeed ∷ []) 10 (column-length t ht) in
       rw columns (column-number t)

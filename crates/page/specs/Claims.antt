@@ -6,12 +6,16 @@ use lib.ListN.{length, take, drop}
 use Rattle.pair.specs.Rank.{wordLimit, Words}
 use Rattle.found.specs.Found.{found}
 use Rattle.page.specs.Figures.{decimal, columnWidth}
-use Rattle.page.specs.Page.{page, printed}
+use Rattle.page.specs.Page.{lineBytes, line, page, printed}
 use Rattle.page.specs.ReadBack.{positionsIn, termIn, lineFeedsIn}
 
 -- every number of the card fits its column: a word has at most ten figures
 unfoldable pub NumbersFit : Type 0
 NumbersFit = (n : ℕ) → n < wordLimit → length (decimal n) ≤ columnWidth
+
+-- so every line is 65 bytes and a line feed
+unfoldable pub LinesAlike : Type 0
+LinesAlike = (t : ℕ) (ps : List ℕ) (i : ℕ) → t < wordLimit → Words ps → length (line t ps i) ≡ lineBytes
 
 -- the bytes of the lines, read back: the positions that the lookup finds, the term where there is one, and as many line feeds as the reply says;
 -- behind them the bytes are as they were
@@ -19,7 +23,7 @@ unfoldable pub PageReadBack : Type 0
 PageReadBack =
     (c : List ℕ) (t a z : ℕ) (memory : List ℕ) → t < wordLimit → printed c t a z memory .number ≡ 0 →
     let p = printed c t a z memory in
-    let end = 66 * p .lines in
+    let end = lineBytes * p .lines in
     (positionsIn (take end (p .memory)) ≡ found c t a z)
     × (0 < length (found c t a z) → termIn (take end (p .memory)) ≡ t)
     × (lineFeedsIn (take end (p .memory)) ≡ p .lines)

@@ -12,7 +12,7 @@ blank = 32
 abbrev pub figure : ℕ → ℕ
 figure d = 48 + d
 
--- a number below ten is one figure, any other its tenth's figures and one more; so many of them, from the last on
+-- the last k figures of n: a number below ten is one figure, any other has those of its tenth part and one more
 unfoldable pub lastFigures : ℕ → ℕ → List ℕ
 lastFigures zero n = []
 lastFigures (suc k) n = let higher = lastFigures k (n / 10) in cond (ltb n 10) (figure n ∷ []) (higher ++ figure (n % 10) ∷ [])

@@ -16,6 +16,13 @@ lineFeed = 10
 abbrev pub lineFields : ℕ
 lineFields = 5
 
+-- bytes of a field, and of a line with its line feed
+abbrev pub fieldBytes : ℕ
+fieldBytes = 11
+
+abbrev pub lineBytes : ℕ
+lineBytes = 66
+
 -- n lists end to end: f 0, f 1 and so on
 unfoldable pub joined : (ℕ → List ℕ) → ℕ → List ℕ
 joined f zero = []

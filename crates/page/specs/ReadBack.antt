@@ -1,12 +1,12 @@
 -- What a reader of a page sees in its bytes: numbers in columns, and line feeds.
 use Prim.Native.Nat.{ℕ, _+_, _*_, _-_, _/_}
-use mathlib.Core.Bool.{Bool, cond, not}
+use mathlib.Core.Bool.{cond, not}
 use mathlib.Core.List.{List, [], _∷_}
 use lib.ListN.{length, take, drop}
 use lib.Dec.{eqb}
 use Rattle.pair.specs.Rising.{keep, any}
-use Rattle.page.specs.Figures.{blank}
-use Rattle.page.specs.Page.{lineFeed, joined}
+use Rattle.page.specs.Figures.{blank, columnWidth}
+use Rattle.page.specs.Page.{lineFeed, lineFields, fieldBytes, lineBytes, joined}
 
 -- the number in a column: a blank adds nothing, a figure makes it ten times what it was and the figure's own worth more
 unfoldable pub numberFrom : ℕ → List ℕ → ℕ
@@ -24,16 +24,16 @@ shown bs = cond (any (λ b. not (eqb b blank)) bs) (numberIn bs ∷ []) []
 unfoldable pub part : ℕ → ℕ → List ℕ → List ℕ
 part w i bs = take w (drop (w * i) bs)
 
--- a line is ten columns, five fields of eleven bytes and a line feed
+-- the positions stand in the five fields behind the first ten columns of each line
 unfoldable pub positionsInLine : List ℕ → List ℕ
-positionsInLine l = joined (λ j. shown (part 11 j (drop 10 l))) 5
+positionsInLine l = joined (λ j. shown (part fieldBytes j (drop columnWidth l))) lineFields
 
 unfoldable pub positionsIn : List ℕ → List ℕ
-positionsIn bs = joined (λ i. positionsInLine (part 66 i bs)) (length bs / 66)
+positionsIn bs = joined (λ i. positionsInLine (part lineBytes i bs)) (length bs / lineBytes)
 
--- the term stands in the first ten columns of the first line
+-- the term stands in the first ten columns
 unfoldable pub termIn : List ℕ → ℕ
-termIn bs = numberIn (take 10 bs)
+termIn bs = numberIn (take columnWidth bs)
 
 unfoldable pub lineFeedsIn : List ℕ → ℕ
 lineFeedsIn bs = length (keep (eqb lineFeed) bs)

@@ -58,10 +58,9 @@ pub fn open_counted(card: &[u32], term: u32, from: u32, to: u32) -> Counted
 {
     let counted = start_counted(card, term, from, to);
     let start = counted.start;
-    let number = start.number;
     let walk = start.walk;
     Counted {
-        number,
+        number: start.number,
         count: counted.count,
         cursor: Cursor {
             at: 0,

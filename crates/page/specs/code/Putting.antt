@@ -9,7 +9,7 @@ use Rattle.reader.specs.declared.cursor.Cursor.{Cursor}
 use Rattle.reader.specs.Reader.{allYielded, Yielded, posting, ended}
 use Rattle.reader.specs.code.Cursor.{CursorAfter}
 use Rattle.page.specs.Figures.{blank, decimal, column, noColumn}
-use Rattle.page.specs.Page.{joined, field, line}
+use Rattle.page.specs.Page.{lineFields, lineBytes, joined, field, line}
 
 -- the figures of n before others: none where n is 0
 unfoldable pub leading : ℕ → List ℕ
@@ -35,8 +35,8 @@ pub record FieldsPut (c : List ℕ) (v : Cursor) (l : List ℕ) (at k : ℕ) (r 
 
 -- the line after i others is put, and the cursor stands behind its postings
 pub record LinePut (c : List ℕ) (v : Cursor) (t i : ℕ) (l : List ℕ) (r : Cursor) (now : List ℕ) : Type 0 where
-  pub put : (a z : ℕ) → CursorAfter c t a z (5 * i) v → now ≡ sets l (66 * i) (line t (allYielded c t a z) i)
-  pub after : (a z : ℕ) → CursorAfter c t a z (5 * i) v → CursorAfter c t a z (5 * i + 5) r
+  pub put : (a z : ℕ) → CursorAfter c t a z (lineFields * i) v → now ≡ sets l (lineBytes * i) (line t (allYielded c t a z) i)
+  pub after : (a z : ℕ) → CursorAfter c t a z (lineFields * i) v → CursorAfter c t a z (lineFields * i + lineFields) r
 
 -- the first n lines are put
 pub record LinesPut (c : List ℕ) (v : Cursor) (t n : ℕ) (l now : List ℕ) : Type 0 where
