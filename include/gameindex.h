@@ -1,12 +1,13 @@
 /* The game index on a store card: the C functions of libgameindex.a.
  *
  * A card is words of 32 bits: 8 configuration words, a map of two words for
- * each place, then the places of B words each. Lengths are counts of words.
- * Every call takes any card, whatever its words and its length: what is wrong
- * with it comes back as a number, and a refused call writes nothing. A pointer
- * stands for as many words as the length beside it says, one word where there is
- * none, and is never NULL, not even where that length is 0. Words that a call
- * may write are lent to it only once.
+ * each place, then the places of B words each. Lengths are counts of words, the
+ * length of a page's memory one of bytes. Every call takes any card, whatever its
+ * words and its length: what is wrong with it comes back as a number, and a
+ * refused call writes nothing. A pointer stands for as many words or bytes as the
+ * length beside it says, for one word where there is none, and is never NULL, not
+ * even where that length is 0. Memory that a call may write is lent to it only
+ * once.
  */
 #ifndef GAMEINDEX_H
 #define GAMEINDEX_H
@@ -86,7 +87,8 @@ static inline size_t gi_card_words(uint32_t b, uint32_t n) {
     return (size_t)GI_CONFIG_WORDS + (size_t)GI_MAP_ENTRY_WORDS * n + (size_t)n * b;
 }
 
-/* The bytes that a page of so many positions has. */
+/* The bytes that a page of so many positions has, for any number of positions
+ * that a card can hold. */
 static inline size_t gi_page_bytes(size_t positions) {
     size_t lines = positions / GI_PAGE_LINE_POSITIONS + (positions % GI_PAGE_LINE_POSITIONS != 0);
     return lines * GI_PAGE_LINE_BYTES;
@@ -179,13 +181,14 @@ uint32_t gi_run_view(const uint32_t *card, size_t card_len, uint32_t term, uint3
  * bytes and a line feed: the term right-aligned in 10 columns, in the first line
  * only, then five fields of one blank and a position right-aligned in 10 columns.
  * What is absent is blanks: the term of later lines, and fields behind the last
- * position. No positions give no lines. Bytes after the page are left as they
- * are; there is no zero byte at its end.
+ * position. No positions give no lines and need no memory. The bytes are ASCII;
+ * those after the page are left as they are, and no zero byte is at its end.
  *
  * Gives the judge's number for a card that is not sound; then 9 as the lookup
- * does; then 11 where page_len, in bytes, is less than the lines need. After a
- * refusal lines is 0 and no byte has changed. Gives 0 otherwise. Writes nothing
- * to the card. A memory of gi_page_bytes(card_len) bytes is never too short. */
+ * does; then 11, and never 10, where page_len is less than the bytes of the lines.
+ * After a refusal lines is 0 and no byte has changed. Gives 0 otherwise. Writes
+ * nothing to the card. A memory of gi_page_bytes(card_len) bytes is never too
+ * short for a sound card. */
 uint32_t gi_page(const uint32_t *card, size_t card_len, uint32_t term, uint32_t from, uint32_t to, uint8_t *page,
                  size_t page_len, uint32_t *lines);
 

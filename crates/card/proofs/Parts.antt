@@ -30,6 +30,12 @@ sets-append [] ys l p = rw add-zero
 sets-append (x ∷ xs) ys l p =
     sets-append xs ys (set l p x) (suc p) ∙ (let e : suc p + length xs ≡ p + suc (length xs) = omega arith in rw e)
 
+-- Words written behind those that are written already.
+pub sets-behind :
+    (l : List ℕ) (p : ℕ) (us vs : List ℕ) {w : ℕ} {now after : List ℕ} → now ≡ sets l p us → length us ≡ w → after ≡ sets now (p + w) vs →
+    after ≡ sets l p (us ++ vs)
+sets-behind l p us vs n e a = rw sets-append (a ∙ rw (n, e))
+
 -- One word more of a list is written.
 pub sets-next : (xs l : List ℕ) (p j : ℕ) → j < length xs → set (sets l p (take j xs)) (p + j) (getD xs j 0) ≡ sets l p (take (j + 1) xs)
 sets-next xs l p j h =

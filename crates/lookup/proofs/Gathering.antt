@@ -5,7 +5,7 @@ use mathlib.Core.Path.{_≡_, refl, sym, ap, _∙_}
 use mathlib.Core.List.{List, [], _++_, append-assoc, append-nil}
 use lib.ListN.{length, take, drop, getD, set, length-append, length-drop}
 use lib.Seq.{sets, getD-drop, length-sets}
-use Rattle.card.proofs.Parts.{length-part, sets-append, sets-next}
+use Rattle.card.proofs.Parts.{length-part, sets-behind, sets-next}
 use Rattle.found.specs.declared.walk.Walk.{Walk}
 use Rattle.found.specs.declared.walk.WalkRun.{WalkRun}
 use Rattle.found.specs.code.Walk.{ahead, ReadyWalk, Next}
@@ -71,11 +71,8 @@ moving-turn {c} {l} {now} {v} {w} {at} {r} {m} k x e =
       done = k .done ++ part;
       all = k .all ∙ ap (λ l. k .done ++ l) (x .rest (k .ready)) ∙ sym (append-assoc (k .done) part (ahead c (r .rest)));
       count = omega (arith, k .count, length-append (k .done) part, length-part c (r .start) (r .len) (x .inside));
-      same = e ∙ ap (λ i. sets i at part) (k .same) ∙ ap (λ i. sets (sets l 0 (k .done)) i part) start ∙ sym (sets-append (k .done) part l 0);
+      same = sets-behind l 0 (k .done) part (k .same) (sym (k .count)) (let z : 0 + at ≡ at = omega arith in rw z e);
     }
-  where
-    start : at ≡ 0 + length (k .done)
-    start = omega (arith, k .count)
 
 pub moving-end :
     {c l now : List ℕ} {v w : Walk} {at : ℕ} {r : WalkRun} → Moving c l v w now at → Next c w r → r .len ≡ 0 → now ≡ sets l 0 (ahead c v)

@@ -6,7 +6,7 @@ use mathlib.Core.List.{List, [], _∷_, _++_, append-assoc, append-nil}
 use lib.ListN.{length, replicate, set, length-replicate, replicate-append-replicate}
 use lib.Seq.{sets, set-set, set-comm, length-sets}
 use Rattle.pair.specs.Rank.{wordLimit}
-use Rattle.card.proofs.Parts.{sets-append}
+use Rattle.card.proofs.Parts.{sets-append, sets-behind}
 use Rattle.page.specs.Figures.{blank, figure, decimal, column}
 use Rattle.page.specs.code.Putting.{leading}
 use Rattle.page.proofs.Figures.{decimal-last, leading-none, leading-some}
@@ -41,9 +41,7 @@ blanking-turn {l} {now} {at} {count} {j} b h =
     record {
       within = omega arith;
       same =
-          ap (λ k. set k (at + j) blank) (b .same)
-          ∙ ap (λ i. set (sets l at (replicate j blank)) (at + i) blank) (sym (length-replicate j blank))
-          ∙ sym (sets-append (replicate j blank) (blank ∷ []) l at)
+          sets-behind l at (replicate j blank) (blank ∷ []) (b .same) (length-replicate j blank) refl
           ∙ ap (sets l at) (replicate-append-replicate j 1 blank);
     }
 
@@ -116,11 +114,13 @@ module _ {l now : List ℕ} {at n before rest b : ℕ} (g : Figuring l at n now 
       let blanks = replicate (before - 1) blank in
       let under = replicate (length figures) blank in
       let ten : before - 1 + length figures ≡ 10 = omega (arith, g .count, g .some) in
+      let all : replicate 10 blank ≡ blanks ++ under =
+      ap (λ i. replicate i blank) (sym ten) ∙ sym (replicate-append-replicate (before - 1) (length figures) blank) in
       let long : length blanks ≡ before - 1 = length-replicate (before - 1) blank in
-      let all : replicate 10 blank ≡ blanks ++ under = ap (λ i. replicate i blank) (sym ten) ∙ sym (replicate-append-replicate (before - 1) (length figures) blank) in
+      let base : l ≡ sets (sets k at blanks) (at + (before - 1)) under =
+      e ∙ ap (sets k at) all ∙ sets-append blanks under k at ∙ ap (λ i. sets (sets k at blanks) (at + i) under) long in
       rw (whole, width)
+      (sets-behind k at blanks figures refl long
       (written-same
-      ∙ ap (λ i. sets i (at + (before - 1)) figures) (e ∙ ap (sets k at) all ∙ sets-append blanks under k at)
-      ∙ ap (λ i. sets (sets (sets k at blanks) (at + length blanks) under) (at + i) figures) (sym long)
-      ∙ sets-over under figures (sets k at blanks) (at + length blanks) (length-replicate (length figures) blank)
-      ∙ sym (sets-append blanks figures k at))
+      ∙ ap (λ i. sets i (at + (before - 1)) figures) base
+      ∙ sets-over under figures (sets k at blanks) (at + (before - 1)) (length-replicate (length figures) blank)))

@@ -2,7 +2,7 @@
 use Prim.Native.Nat.{ℕ, zero, suc, _+_, _*_, _≤_, _<_, zero-le}
 use native.Mathlib.Numerals.{add-one}
 use native.Mathlib.Omega.{arith}
-use mathlib.Core.Path.{_≡_, refl, sym, ap, _∙_}
+use mathlib.Core.Path.{_≡_, refl, ap, _∙_}
 use mathlib.Core.Bool.{Bool, true, false, cond}
 use mathlib.Core.List.{List, [], _∷_, map}
 use borrow.Author.Tests.{lt-ltb, le-ltb}
@@ -11,7 +11,7 @@ use lib.Seq.{sets, length-sets}
 use lib.Dec.{ltb, eqb}
 use Rattle.pair.specs.Rank.{wordLimit, Words}
 use Rattle.pair.proofs.Tests.{ltb-agree}
-use Rattle.card.proofs.Parts.{sets-append}
+use Rattle.card.proofs.Parts.{sets-behind}
 use Rattle.found.specs.Found.{found, questionNumber}
 use Rattle.reader.specs.declared.Yield.{Yield}
 use Rattle.reader.specs.declared.Yield.the-variants.{Posting, End}
@@ -83,16 +83,9 @@ fielding-turn {c} {l} {now} {after} {v} {r} {at} {j} {s} g h x e =
           record {
             put = λ t a z n q.
                 let all = allYielded c t a z in
-                let before = fieldsFrom all n j in
-                let width : length before ≡ 11 * j = joined-length (λ i. field all (n + i)) 11 j (λ i k. field-length all (n + i) (yielded-words c t a z)) in
-                let shows : fieldOf (yieldOf (s .yielded)) ≡ field all (n + j) =
-                ap fieldOf (x .yields t a z (n + j) (g .done .after t a z n q)) ∙ field-of all (n + j) in
-                e
-                ∙ ap (sets now (at + 11 * j)) shows
-                ∙ ap (λ m. sets m (at + 11 * j) (field all (n + j))) (g .done .put t a z n q)
-                ∙ ap (λ i. sets (sets l at before) (at + i) (field all (n + j))) (sym width)
-                ∙ sym (sets-append before (field all (n + j)) l at)
-                ∙ rw (add-one j) refl;
+                let width : length (fieldsFrom all n j) ≡ 11 * j = joined-length (λ i. field all (n + i)) 11 j (λ i k. field-length all (n + i) (yielded-words c t a z)) in
+                let shows : fieldOf (yieldOf (s .yielded)) ≡ field all (n + j) = ap fieldOf (x .yields t a z (n + j) (g .done .after t a z n q)) ∙ field-of all (n + j) in
+                rw (add-one j) (sets-behind l at (fieldsFrom all n j) (field all (n + j)) (g .done .put t a z n q) width (rw (← shows) e));
             after = λ t a z n q. let f : n + j + 1 ≡ n + (j + 1) = omega arith in rw f at (x .after t a z (n + j) (g .done .after t a z n q));
           };
     }

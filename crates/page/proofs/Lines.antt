@@ -2,12 +2,12 @@
 use Prim.Native.Nat.{ℕ, _+_, _*_, _≤_, _<_, zero-le}
 use native.Mathlib.Numerals.{add-one}
 use native.Mathlib.Omega.{arith}
-use mathlib.Core.Path.{_≡_, refl, sym, ap, _∙_}
+use mathlib.Core.Path.{_≡_, refl, _∙_}
 use mathlib.Core.List.{List, [], _∷_, _++_}
 use lib.ListN.{length, set, length-append}
 use lib.Seq.{sets}
 use Rattle.pair.specs.Rank.{wordLimit}
-use Rattle.card.proofs.Parts.{sets-append}
+use Rattle.card.proofs.Parts.{sets-behind}
 use Rattle.reader.specs.declared.cursor.Cursor.{Cursor}
 use Rattle.reader.specs.Reader.{allYielded}
 use Rattle.reader.specs.code.Cursor.{CursorAfter}
@@ -26,19 +26,12 @@ line-put {c} {v} {r} l {m₁} {m₂} {t} i ht e f =
     record {
       put = λ a z q.
           let all = allYielded c t a z in
-          let at = 66 * i in
           let head = headOf t i in
           let fields = fieldsFrom all (5 * i) 5 in
           let long : length head ≡ 10 = head-length t i ht in
           let both : length (head ++ fields) ≡ 65 = rw (length-append, long, fields-length t all ht (yielded-words c t a z) i) refl in
-          let first : m₂ ≡ sets l at (head ++ fields) =
-          f .put t a z (5 * i) q
-          ∙ ap (λ m. sets m (at + 10) fields) e
-          ∙ ap (λ k. sets (sets l at head) (at + k) fields) (sym long)
-          ∙ sym (sets-append head fields l at) in
-          ap (λ m. set m (at + 65) lineFeed) first
-          ∙ ap (λ k. set (sets l at (head ++ fields)) (at + k) lineFeed) (sym both)
-          ∙ sym (sets-append (head ++ fields) (lineFeed ∷ []) l at);
+          let first : m₂ ≡ sets l (66 * i) (head ++ fields) = sets-behind l (66 * i) head fields e long (f .put t a z (5 * i) q) in
+          sets-behind l (66 * i) (head ++ fields) (lineFeed ∷ []) first both refl;
       after = λ a z q. f .after t a z (5 * i) q;
     }
 
@@ -63,18 +56,11 @@ lining-turn {c} {l} {now} {after} {v} {r} {s} {t} {n} {i} ht g h x k =
       kept = k ∙ g .kept;
       put = λ a z q.
           let all = allYielded c t a z in
-          let before = joined (line t all) i in
-          let width : length before ≡ 66 * i = joined-length (line t all) 66 i (λ j p. line-length t all ht (yielded-words c t a z) j) in
-          x .put a z (g .after a z q)
-          ∙ ap (λ m. sets m (66 * i) (line t all i)) (g .put a z q)
-          ∙ ap (λ j. sets (sets l 0 before) j (line t all i)) (sym (at-end width))
-          ∙ sym (sets-append before (line t all i) l 0)
-          ∙ rw (add-one i) refl;
+          let width : length (joined (line t all) i) ≡ 66 * i = joined-length (line t all) 66 i (λ j p. line-length t all ht (yielded-words c t a z) j) in
+          let at : 66 * i ≡ 0 + 66 * i = omega arith in
+          rw (add-one i) (sets-behind l 0 (joined (line t all) i) (line t all i) (g .put a z q) width (rw (← at) (x .put a z (g .after a z q))));
       after = λ a z q. let e : 5 * i + 5 ≡ 5 * (i + 1) = omega arith in rw e at (x .after a z (g .after a z q));
     }
-  where
-    at-end : {m : ℕ} → m ≡ 66 * i → 0 + m ≡ 66 * i
-    at-end e = omega arith
 
 pub lining-end : {c l now : List ℕ} {v r : Cursor} {t n i : ℕ} → Lining c v t n l now r i → n ≤ i → LinesPut c v t n l now
 lining-end {n = n} {i} g h = let e : n ≡ i = omega (arith, g .within) in record { put = λ a z q. rw e (g .put a z q) }

@@ -16,12 +16,12 @@ use Rattle.reader.specs.Reader.{allYielded, posting, ended, yielded, rea
 use Rattle.reader.specs.code.Cursor.{CursorAfter, CursorStep}
 
 -- where a posting is yielded, it is the next of them all; where the end is, there are no more
-pub yields-there : (ys : List ℕ) (n p : ℕ) → posting p ≡ getD (map posting ys) n ended → (n < length ys) × (p ≡ getD ys n 0)
+yields-there : (ys : List ℕ) (n p : ℕ) → posting p ≡ getD (map posting ys) n ended → (n < length ys) × (p ≡ getD ys n 0)
 yields-there [] n p e = absurd (let z : _≡_ {A = ℕ} 0 1 = cc in omega arith)
 yields-there (y ∷ ys) zero p e = (omega arith, cc)
 yields-there (y ∷ ys) (suc n) p e = let h = yields-there ys n p e in (omega (arith, h .0), h .1)
 
-pub yields-past : (ys : List ℕ) (n : ℕ) → ended ≡ getD (map posting ys) n ended → length ys ≤ n
+yields-past : (ys : List ℕ) (n : ℕ) → ended ≡ getD (map posting ys) n ended → length ys ≤ n
 yields-past [] n e = zero-le
 yields-past (y ∷ ys) zero e = absurd (let z : _≡_ {A = ℕ} 0 1 = cc in omega arith)
 yields-past (y ∷ ys) (suc n) e = omega (arith, yields-past ys n e)
