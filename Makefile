@@ -18,7 +18,7 @@ C_FILES = $(wildcard include/*.h host/*.[ch] tests/c/*.[ch] bench/*.[ch])
 .PHONY: help run test pins bench fmt clean
 
 help:
-	@echo 'make run     build the library and the host program; make a card, apply a batch, look up'
+	@echo 'make run     build the library and the host program; make a card, apply a batch, look up, print'
 	@echo 'make test    run the merge gate, .ci/run'
 	@echo 'make pins    write tests/pins anew, which the gate holds the source to; read its diff'
 	@echo 'make bench   time the judge and pages against plain C, steps and lookups against the judge'
@@ -35,6 +35,7 @@ run: target/gameindex
 	target/gameindex show target/demo.card
 	target/gameindex lookup target/demo.card 5
 	target/gameindex lookup target/demo.card 8 2 9
+	target/gameindex page target/demo.card 5
 
 test:
 	.ci/run
