@@ -9,14 +9,18 @@ use Rattle.card.proofs.Parts.{part-sets-same, part-sets-after}
 use Rattle.found.specs.Found.{found}
 use Rattle.page.specs.Page.{lineCount, page, pageNumber}
 use Rattle.page.specs.ReadBack.{positionsIn, termIn}
-use Rattle.page.specs.Claims.{NumbersFit, LinesAlike, PageReadBack, PagesDiffer}
-use Rattle.page.proofs.Figures.{decimal-few}
+use Rattle.page.specs.Claims.{NumbersFit, NoLeadingZero, LinesAlike, PageReadBack, PagesDiffer}
+use Rattle.page.proofs.Figures.{decimal-few, decimal-leads}
 use Rattle.page.proofs.ReadBack.{line-length, page-length, page-positions, page-term, page-feeds}
 use Rattle.page.proofs.Printing.{found-words, printed-done, printed-number, page-room}
 
 pub numbersFit : NumbersFit
 unfolding NumbersFit
 numbersFit = decimal-few
+
+pub noLeadingZero : NoLeadingZero
+unfolding NoLeadingZero
+noLeadingZero = decimal-leads
 
 pub linesAlike : LinesAlike
 unfolding LinesAlike

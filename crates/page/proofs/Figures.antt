@@ -5,7 +5,7 @@ use mathlib.Core.Path.{_≡_, refl, sym, ap, _∙_}
 use mathlib.Core.Bool.{Bool, true, false, cond, not, _||_}
 use mathlib.Core.List.{List, [], _∷_, _++_, append-assoc}
 use borrow.Author.Tests.{ltb-true, ltb-false, eq-eqb, ne-eqb}
-use lib.ListN.{length, replicate, length-append, length-replicate}
+use lib.ListN.{length, getD, replicate, length-append, length-replicate, List·getD-append}
 use lib.Dec.{ltb, eqb}
 use Rattle.pair.specs.Rank.{wordLimit}
 use Rattle.pair.specs.Rising.{keep, any}
@@ -68,6 +68,34 @@ decimal-few n h =
 pub column-length : (n : ℕ) → n < wordLimit → length (column n) ≡ columnWidth
 unfolding column
 column-length n h = rw (length-append, length-replicate) (omega (arith, decimal-few n h))
+
+-- the first figure is 0 in no number but 0
+figures-some : (k n : ℕ) → n < k → 0 < length (lastFigures k n)
+unfolding lastFigures
+figures-some zero n h = absurd (omega arith)
+figures-some (suc k) n h = go (ltb n 10)
+  where
+    go : (s : Bool) → 0 < length (cond s (figure n ∷ []) (lastFigures k (n / 10) ++ figure (n % 10) ∷ []))
+    go true = omega arith
+    go false = rw length-append (omega arith)
+
+first-figure : (k n : ℕ) → n < k → 0 < n → getD (lastFigures k n) 0 blank ≡ figure 0 → ⊥
+unfolding lastFigures
+first-figure zero n h l = absurd (omega arith)
+first-figure (suc k) n h l = go (first-figure k (n / 10)) (ltb n 10) refl
+  where
+    go :
+        (n / 10 < k → 0 < n / 10 → getD (lastFigures k (n / 10)) 0 blank ≡ figure 0 → ⊥) → (s : Bool) → ltb n 10 ≡ s →
+        getD (lastFigures (suc k) n) 0 blank ≡ figure 0 → ⊥
+    go ih true e = rw e (λ z. omega arith)
+    go ih false e =
+        let m : 10 ≤ n = ltb-false n 10 e in
+        let some = figures-some k (n / 10) (omega arith) in
+        rw (e, List·getD-append (lastFigures k (n / 10)) (figure (n % 10) ∷ []) blank 0 some) (ih (omega arith) (omega arith))
+
+pub decimal-leads : (n : ℕ) → 0 < n → getD (decimal n) 0 blank ≡ figure 0 → ⊥
+unfolding decimal
+decimal-leads n l = first-figure (suc n) n (omega arith) l
 
 -- reading goes on behind what was read
 number-append : (xs ys : List ℕ) (v : ℕ) → numberFrom v (xs ++ ys) ≡ numberFrom (numberFrom v xs) ys

@@ -2,16 +2,20 @@
 use Prim.Native.Nat.{ℕ, _*_, _≤_, _<_}
 use mathlib.Core.Path.{_≡_}
 use mathlib.Core.List.{List}
-use lib.ListN.{length, take, drop}
+use lib.ListN.{length, take, drop, getD}
 use Rattle.pair.specs.Rank.{wordLimit, Words}
 use Rattle.found.specs.Found.{found}
-use Rattle.page.specs.Figures.{decimal, columnWidth}
+use Rattle.page.specs.Figures.{blank, figure, decimal, columnWidth}
 use Rattle.page.specs.Page.{lineBytes, line, page, printed}
 use Rattle.page.specs.ReadBack.{positionsIn, termIn, lineFeedsIn}
 
 -- every number of the card fits its column: a word has at most ten figures
 unfoldable pub NumbersFit : Type 0
 NumbersFit = (n : ℕ) → n < wordLimit → length (decimal n) ≤ columnWidth
+
+-- and no number but 0 begins with the figure 0
+unfoldable pub NoLeadingZero : Type 0
+NoLeadingZero = (n : ℕ) → 0 < n → getD (decimal n) 0 blank ≡ figure 0 → ⊥
 
 -- so every line is 65 bytes and a line feed
 unfoldable pub LinesAlike : Type 0

@@ -2,19 +2,24 @@
 use Prim.Native.Nat.{ℕ, _*_, _≤_, _<_}
 use mathlib.Core.Path.{_≡_, refl}
 use mathlib.Core.List.{List, [], _∷_, _++_}
-use lib.ListN.{length, take, drop, replicate}
+use lib.ListN.{length, take, drop, getD, replicate}
 use Rattle.pair.specs.Rank.{Words}
 use Rattle.found.specs.Found.{found}
 use Rattle.page.specs.Figures.{lastFigures, decimal, column}
 use Rattle.page.specs.Page.{joined, field, line, lineCount, page, printed}
 use Rattle.page.specs.ReadBack.{numberFrom, numberIn, positionsIn, termIn, lineFeedsIn}
-use Rattle.page.specs.Claims.{NumbersFit, LinesAlike, PageReadBack, PagesDiffer}
-use Rattle.page.proofs.Claims.{numbersFit, linesAlike, pageReadBack, pagesDiffer}
+use Rattle.page.specs.Claims.{NumbersFit, NoLeadingZero, LinesAlike, PageReadBack, PagesDiffer}
+use Rattle.page.proofs.Claims.{numbersFit, noLeadingZero, linesAlike, pageReadBack, pagesDiffer}
 
 -- a word has at most ten figures
 pub ten-figures : (n : ℕ) → n < 4294967296 → length (decimal n) ≤ 10
 unfolding NumbersFit
 ten-figures = numbersFit
+
+-- no number but 0 begins with the figure 0
+pub no-leading-zero : (n : ℕ) → 0 < n → getD (decimal n) 0 32 ≡ 48 → ⊥
+unfolding NoLeadingZero
+no-leading-zero = noLeadingZero
 
 -- every line is 65 bytes and a line feed
 pub lines-of-66-bytes : (t : ℕ) (ps : List ℕ) (i : ℕ) → t < 4294967296 → Words ps → length (line t ps i) ≡ 66
