@@ -63,6 +63,25 @@ pub fn known_pairs(card: &[u32]) -> Vec<Pair> {
     known
 }
 
+/// Hands out cards laid out by hand, one term or three over many blocks in both segments, gaps
+/// between them, old blocks from below the boundary to above it; each with every question over its
+/// terms and positions.
+pub fn across_many_blocks(
+    random: &mut Random,
+    rounds: usize,
+    mut ask: impl FnMut(&mut Random, &[u32], &[Question]),
+) {
+    for round in 0..rounds {
+        let terms: u32 = if round % 2 == 0 { 1 } else { 3 };
+        let most = 45 / terms;
+        let card = cards::over_many_blocks(random, terms, most);
+        assert_eq!(second::judge(&card), 0);
+        let terms: Vec<u32> = (1..=2 * terms + 1).collect();
+        let positions: Vec<u32> = (0..=most + 1).collect();
+        ask(random, &card, &every(&terms, &positions));
+    }
+}
+
 /// Hands out cards over small universes, at every moment of their passes, each with every question
 /// over its universe.
 pub fn on_small_cards(

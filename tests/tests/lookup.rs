@@ -171,32 +171,24 @@ fn lookup_of_every_question_on_small_cards() {
     seen.expect(50);
 }
 
-/// Blocks laid out by hand: one term or three over many blocks in both segments, gaps between them,
-/// old blocks from below the boundary to above it; every question.
+/// Terms over many blocks laid out by hand; every question.
 #[test]
 fn lookup_across_many_blocks() {
     let mut random = Random::new(42);
     let mut tally = Tally::new();
     let mut whole = Tally::new();
     let mut seen = Seen::default();
-    for round in 0..36 {
-        let terms: u32 = if round % 2 == 0 { 1 } else { 3 };
-        let most = 45 / terms;
-        let card = cards::over_many_blocks(&mut random, terms, most);
-        assert_eq!(second::judge(&card), 0);
-        let terms: Vec<u32> = (1..=2 * terms + 1).collect();
-        let positions: Vec<u32> = (0..=most + 1).collect();
-        let questions = questions::every(&terms, &positions);
-        lookups_all(&mut whole, &mut random, &card, &questions);
-        for question in questions {
+    questions::across_many_blocks(&mut random, 36, |random, card, questions| {
+        lookups_all(&mut whole, random, card, questions);
+        for &question in questions {
             // Of those that are refused a few will do.
             if question.1 > question.2 && random.chance(7, 8) {
                 continue;
             }
-            let reply = compare::lookups(&mut tally, &mut random, &card, question, &String::new);
-            seen.note(&card, question, &reply);
+            let reply = compare::lookups(&mut tally, random, card, question, &String::new);
+            seen.note(card, question, &reply);
         }
-    }
+    });
     tally.report("lookup_across_many_blocks");
     whole.report("lookup_across_many_blocks, all of a term");
     println!("lookup_across_many_blocks: {seen:?}");

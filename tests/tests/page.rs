@@ -317,28 +317,22 @@ fn page_of_every_question_on_small_cards() {
     seen.expect(3, 50);
 }
 
-/// One term or three over many blocks, in open passes with pairs on both sides of the boundary.
+/// Terms over many blocks, in open passes with pairs on both sides of the boundary.
 #[test]
 fn page_across_many_blocks() {
     let mut random = Random::new(74);
     let mut tally = Tally::new();
     let mut seen = Seen::default();
-    for round in 0..80 {
-        let terms: u32 = if round % 2 == 0 { 1 } else { 3 };
-        let most = 45 / terms;
-        let card = cards::over_many_blocks(&mut random, terms, most);
-        assert_eq!(second::judge(&card), 0);
-        let terms: Vec<u32> = (1..=2 * terms + 1).collect();
-        let positions: Vec<u32> = (0..=most + 1).collect();
-        for question in questions::every(&terms, &positions) {
+    questions::across_many_blocks(&mut random, 80, |random, card, questions| {
+        for &question in questions {
             // An eighth of them will do.
             if random.chance(7, 8) {
                 continue;
             }
-            let reply = compare::pages(&mut tally, &mut random, &card, question, &String::new);
-            seen.note(&card, question, &reply);
+            let reply = compare::pages(&mut tally, random, card, question, &String::new);
+            seen.note(card, question, &reply);
         }
-    }
+    });
     tally.report("page_across_many_blocks");
     println!("page_across_many_blocks: {seen:?}");
     tally.expect(&[0, 11], 10_000);
