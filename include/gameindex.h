@@ -2,7 +2,7 @@
  *
  * A card is words of 32 bits: 8 configuration words, a map of two words for
  * each place, then the places of B words each. Lengths are counts of words, the
- * length of a page's memory one of bytes. Every call takes any card, whatever its
+ * length of a page's memory or of a file one of bytes. Every call takes any card, whatever its
  * words and its length: what is wrong with it comes back as a number, and a
  * refused call writes nothing. A pointer stands for as many words or bytes as the
  * length beside it says, for one word where there is none, and is never NULL, not
@@ -31,8 +31,10 @@ enum {
     GI_BATCH_ORDER = 7,        /* the records are not in order of term, then from */
     GI_CARD_FULL = 8,          /* the step would leave no place free */
     GI_LOOKUP_RANGE = 9,       /* term or from is 0, or from is above to */
-    GI_LOOKUP_ANSWER = 10,     /* fewer answer words than positions */
-    GI_PAGE_MEMORY = 11        /* the page memory is shorter than the page */
+    GI_LOOKUP_ANSWER = 10,     /* fewer answer words than positions, or fewer words lent for a batch than it has */
+    GI_PAGE_MEMORY = 11,       /* the page memory is shorter than the page */
+    GI_SCORES_LINE = 12,       /* a line of a scorekeepers' file has another form, or a figure above 4,294,967,295 */
+    GI_SCORES_LINES = 13       /* the file has more than 4,096 lines */
 };
 
 /* The limits of a card. */
@@ -64,6 +66,10 @@ enum {
 
 /* A bulletin page: lines of 65 bytes and a line feed, five positions to a line. */
 enum { GI_PAGE_LINE_BYTES = 66, GI_PAGE_LINE_POSITIONS = 5 };
+
+/* A scorekeepers' file: the most bytes of a line that is a record, with its line
+ * feed, and the bytes that settle what any file gives: the first 4,097 lines. */
+enum { GI_SCORES_LINE_BYTES = 35, GI_SCORES_BYTES = 143395 };
 
 /* The range of all positions, and of all terms. */
 #define GI_LOWEST ((uint32_t)1)
@@ -191,6 +197,28 @@ uint32_t gi_run_view(const uint32_t *card, size_t card_len, uint32_t term, uint3
  * short for a sound card. */
 uint32_t gi_page(const uint32_t *card, size_t card_len, uint32_t term, uint32_t from, uint32_t to, uint8_t *page,
                  size_t page_len, uint32_t *lines);
+
+/* Reads a scorekeepers' file: lines of text, one record a line, its fields parted by
+ * single tabs. A, a term and a position add a pair; R, a term, from and to remove the
+ * term's positions from from to to. Figures are decimal, without a sign and without
+ * leading zeros; 0 alone is a figure. A line ends at a line feed, which the last line
+ * may lack: no bytes are no line, a line feed at the start or behind another is an
+ * empty line, and a carriage return is a byte like any other.
+ *
+ * Writes the batch of these records into the first batch words, sorted by term, then
+ * from, records equal in both in the order of their lines; its length in words goes
+ * behind words. The words after it are left as they are. The batch goes to gi_step,
+ * which judges it: a figure 0, or from above to, gives 6 there.
+ *
+ * Gives 12 for a line of another form or with a figure above 4,294,967,295, and 13 for
+ * the 4,097th line, whichever line comes first, and 12 where both are of one line;
+ * the line's number, counted from 1, goes behind line. Then gives 10 where batch_len is
+ * less than the words of the batch. After a refusal words is 0 and no batch word has
+ * changed, and line is 0 but after 12 and 13. Gives 0 otherwise. A batch of
+ * GI_RECORD_WORDS x GI_BATCH_RECORDS_MAX words is never too short. Bytes behind the
+ * first GI_SCORES_BYTES change nothing. */
+uint32_t gi_scores(const uint8_t *bytes, size_t bytes_len, uint32_t *batch, size_t batch_len, size_t *words,
+                   size_t *line);
 
 #ifdef __cplusplus
 }
