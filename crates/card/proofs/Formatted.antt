@@ -15,7 +15,7 @@ use Rattle.card.specs.Layout.{word, format, boundary, widthOf, cardLengt
 use Rattle.card.specs.Sound.{blocksSound, firstReaches, boundaryAgrees, judged}
 use Rattle.card.proofs.Facts.{sound}
 use Rattle.card.proofs.Limits.{Limits, limits}
-use Rattle.card.proofs.Parts.{part-sets-after, word-sets-same}
+use Rattle.pair.proofs.Lists.{part-sets-after, word-sets-same}
 use Rattle.pair.proofs.Words.{words-sets, words-cons, words-nil}
 
 -- what the formatter asks for

@@ -10,7 +10,7 @@ use Rattle.pair.specs.Rising.{Each}
 use Rattle.pair.proofs.Each.{Each-imply}
 use Rattle.card.specs.Layout.{blockSize, placeCount, oldStart, oldLength, newLength, entryWidth, entryAt, placeAt, place, oldPlaces, newPlaces, duePlace}
 use Rattle.card.proofs.Circle.{mod-apart, each-around, around-add, around-more, Distinct, around-distinct}
-use Rattle.card.proofs.Parts.{part-sets-before, part-sets-after, part-sets-row, word-sets-before}
+use Rattle.pair.proofs.Lists.{part-sets-before, part-sets-after, part-sets-row, word-sets-before}
 use Rattle.card.proofs.Facts.{Facts}
 use Rattle.card.proofs.Frame.{SameAt, Alike}
 

@@ -4,7 +4,7 @@ use native.Mathlib.Omega.{arith}
 use mathlib.Core.Path.{_≡_, ap, _∙_}
 use mathlib.Core.List.{List}
 use lib.ListN.{length, take, drop, length-append}
-use Rattle.card.proofs.Parts.{length-part}
+use Rattle.pair.proofs.Lists.{length-part}
 use Rattle.found.specs.declared.walk.Walk.{Walk}
 use Rattle.found.specs.declared.walk.WalkRun.{WalkRun}
 use Rattle.found.specs.code.Walk.{ahead, ReadyWalk, Next}

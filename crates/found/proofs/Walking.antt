@@ -15,7 +15,7 @@ use Rattle.block.specs.Block.{pairs, formed}
 use Rattle.wanted.specs.code.Wanted.{isWanted, BlockPart}
 use Rattle.wanted.specs.declared.Part.{Part}
 use Rattle.wanted.proofs.Seeking.{take-part}
-use Rattle.card.proofs.Parts.{length-part}
+use Rattle.pair.proofs.Lists.{length-part}
 use Rattle.card.specs.Layout.{blockSize, placeCount, placeAt, place, around, pairsAt}
 use Rattle.card.specs.code.Configuration.{ConfigurationOf, placeOn}
 use Rattle.card.specs.declared.layout.Configuration.{Configuration}

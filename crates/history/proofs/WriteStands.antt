@@ -14,7 +14,7 @@ use Rattle.card.specs.Layout.{word, blockSize, oldStart, oldLength}
 use Rattle.card.specs.Sound.{judged}
 use Rattle.card.proofs.Facts.{facts}
 use Rattle.card.proofs.Frame.{Alike, word-alike}
-use Rattle.card.proofs.Parts.{word-sets-before, word-sets-after}
+use Rattle.pair.proofs.Lists.{word-sets-before, word-sets-after}
 use Rattle.span.specs.declared.WriteSpan.{WriteSpan}
 use Rattle.span.specs.Span.{writeSpan}
 use Rattle.update.specs.Step.{Write, withWrite, remains, configured, nextBoundary, freed, grown, configuration, nextWrite, theWrite, stepNumber, taken, refused, step}

@@ -7,7 +7,7 @@ use borrow.Author.Tests.{ltb-false}
 use lib.ListN.{length, take}
 use lib.Seq.{sets, take-all}
 use Rattle.pair.proofs.FirstOf.{passed, handed-on}
-use Rattle.card.proofs.Parts.{part-sets-same}
+use Rattle.pair.proofs.Lists.{part-sets-same}
 use Rattle.found.specs.Found.{found, questionNumber, lookupNumber}
 use Rattle.found.proofs.Answers.{lookup-found, lookup-number}
 use Rattle.reader.specs.Reader.{allYielded, yielded, read}

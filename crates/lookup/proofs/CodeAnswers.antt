@@ -9,7 +9,7 @@ use lib.ListN.{length, take, drop}
 use lib.Seq.{sets}
 use lib.Dec.{eqb}
 use Rattle.pair.specs.Tests.{firstOf}
-use Rattle.card.proofs.Parts.{length-part}
+use Rattle.pair.proofs.Lists.{length-part}
 use Rattle.found.specs.declared.walk.WalkStart.{WalkStart}
 use Rattle.found.specs.declared.walk.WalkRun.{WalkRun}
 use Rattle.lookup.specs.declared.LookupAnswer.{LookupAnswer}

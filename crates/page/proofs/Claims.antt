@@ -5,7 +5,7 @@ use mathlib.Core.Path.{_≡_, sym, ap, _∙_}
 use lib.ListN.{length, take}
 use lib.Seq.{sets}
 use Rattle.pair.specs.Rank.{Words}
-use Rattle.card.proofs.Parts.{part-sets-same, part-sets-after}
+use Rattle.pair.proofs.Lists.{part-sets-same, part-sets-after}
 use Rattle.found.specs.Found.{found}
 use Rattle.page.specs.Page.{lineCount, page, pageNumber}
 use Rattle.page.specs.ReadBack.{positionsIn, termIn}

@@ -6,7 +6,7 @@ use mathlib.Core.List.{List, [], _∷_, _++_, append-assoc, append-nil}
 use lib.ListN.{length, replicate, set, length-replicate, replicate-append-replicate}
 use lib.Seq.{sets, set-set, set-comm, length-sets}
 use Rattle.pair.specs.Rank.{wordLimit}
-use Rattle.card.proofs.Parts.{sets-append, sets-behind}
+use Rattle.pair.proofs.Lists.{sets-append, sets-behind}
 use Rattle.page.specs.Figures.{blank, figure, decimal, column}
 use Rattle.page.specs.code.Putting.{leading}
 use Rattle.page.proofs.Figures.{decimal-last, leading-none, leading-some}

@@ -11,7 +11,7 @@ use lib.Seq.{sets, length-sets}
 use lib.Dec.{ltb, eqb}
 use Rattle.pair.specs.Rank.{wordLimit, Words}
 use Rattle.pair.proofs.Tests.{ltb-agree}
-use Rattle.card.proofs.Parts.{sets-behind}
+use Rattle.pair.proofs.Lists.{sets-behind}
 use Rattle.found.specs.Found.{found, questionNumber}
 use Rattle.reader.specs.declared.Yield.{Yield}
 use Rattle.reader.specs.declared.Yield.the-variants.{Posting, End}

@@ -7,7 +7,7 @@ use mathlib.Core.List.{List, [], _∷_, _++_}
 use lib.ListN.{length, set, length-append}
 use lib.Seq.{sets}
 use Rattle.pair.specs.Rank.{wordLimit}
-use Rattle.card.proofs.Parts.{sets-behind}
+use Rattle.pair.proofs.Lists.{sets-behind}
 use Rattle.reader.specs.declared.cursor.Cursor.{Cursor}
 use Rattle.reader.specs.Reader.{allYielded}
 use Rattle.reader.specs.code.Cursor.{CursorAfter}

@@ -1,7 +1,9 @@
 pub mod Bounds
+pub mod Copying
 pub mod Each
 pub mod FirstOf
 pub mod Keep
+pub mod Lists
 pub mod Order
 pub mod Parts
 pub mod Rising

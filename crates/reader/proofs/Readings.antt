@@ -7,7 +7,7 @@ use mathlib.Core.List.{List, [], _∷_, map}
 use lib.ListN.{length, take, getD, set, length-take}
 use lib.Seq.{sets, take-all, take-nil, length-sets}
 use lib.Dec.{eqb}
-use Rattle.card.proofs.Parts.{sets-next}
+use Rattle.pair.proofs.Lists.{sets-next}
 use Rattle.found.specs.Found.{questionNumber}
 use Rattle.reader.specs.declared.Yield.the-variants.{Posting, End}
 use Rattle.reader.specs.declared.cursor.Cursor.{Cursor}

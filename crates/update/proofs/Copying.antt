@@ -10,7 +10,7 @@ use lib.ListN.{length, take, drop, getD, set, drop-of-length-le}
 use lib.Seq.{sets, drop-cons, take-all, length-sets}
 use lib.Dec.{eqb}
 use Rattle.pair.specs.Tests.{same}
-use Rattle.card.proofs.Parts.{sets-next}
+use Rattle.pair.proofs.Lists.{sets-next}
 
 -- the words up to i are compared: the lists are the same exactly where ok says so of these and the rest is the same
 pub record Compared (a b : List ℕ) (ok : Bool) (i : ℕ) : Type 0 where

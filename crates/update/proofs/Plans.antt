@@ -19,7 +19,8 @@ use Rattle.card.specs.code.Configuration.{put, Ordered}
 use Rattle.card.proofs.Circle.{length-around}
 use Rattle.card.proofs.Facts.{Facts}
 use Rattle.card.proofs.Ordered.{shaped, place-on}
-use Rattle.card.proofs.Parts.{part-sets-same, place-inside, entry-inside, width-low}
+use Rattle.pair.proofs.Lists.{part-sets-same}
+use Rattle.card.proofs.Parts.{place-inside, entry-inside, width-low}
 use Rattle.update.specs.declared.StepAnswer.the-variants as answer
 use Rattle.update.specs.declared.due.Due.{Due}
 use Rattle.update.specs.Answer.{answerOf}

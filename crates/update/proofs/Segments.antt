@@ -19,7 +19,7 @@ use Rattle.pair.proofs.Words.{words-sets, words-cons, words-nil}
 use Rattle.card.proofs.Circle.{around-mod, around-mod-add}
 use Rattle.card.proofs.Facts.{Facts, sound}
 use Rattle.card.proofs.Frame.{SameAt, pairsAt-alike, blocksSound-alike, firstReaches-alike}
-use Rattle.card.proofs.Parts.{part-sets-after, word-sets-same}
+use Rattle.pair.proofs.Lists.{part-sets-after, word-sets-same}
 use Rattle.update.specs.Step.{configured}
 
 -- the segments that the write sets, and their boundary, fit the card

@@ -22,7 +22,8 @@ use Rattle.card.proofs.Facts.{Facts}
 use Rattle.card.proofs.Frame.{Alike}
 use Rattle.card.proofs.Free.{due-free, alike-place, alike-entry}
 use Rattle.card.proofs.Ordered.{shaped}
-use Rattle.card.proofs.Parts.{place-inside, entry-inside, part-sets-after, part-sets-same, word-sets-before}
+use Rattle.pair.proofs.Lists.{part-sets-after, part-sets-same, word-sets-before}
+use Rattle.card.proofs.Parts.{place-inside, entry-inside}
 use Rattle.update.specs.Step.{withWrite, dueBlock, dueEntry, nextWrite, theWrite}
 use Rattle.update.proofs.Grown.{DueWritten}
 

@@ -1,7 +1,7 @@
 -- `lookup::taking::copy_part` meets its contract. The invariant: the first j words are moved.
 use Prim.Native.Nat.{_-_}
 use native.Mathlib.Omega.{arith}
-use Rattle.lookup.proofs.Gathering.{Copying, copying-start, copying-length, copying-turn, copying-end}
+use Rattle.pair.proofs.Copying.{Copying, copying-start, copying-length, copying-turn, copying-end}
 use borrow.Author.Needs.{needs}
 use Rattle.lookup.proofs.taking.copy_part.Statement.{statement}
 use Rattle.lookup.proofs.taking.copy_part.Tie as tie

@@ -6,7 +6,8 @@ use denote.Ref.{now}
 use Rattle.block.specs.code.Scan.{readsOn}
 use Rattle.card.specs.Layout.{blockSize, placeCount}
 use Rattle.card.proofs.Ordered.{place-on-circle}
-use Rattle.card.proofs.Parts.{place-inside, drop-take}
+use Rattle.pair.proofs.Lists.{drop-take}
+use Rattle.card.proofs.Parts.{place-inside}
 use Rattle.update.specs.code.Old.{rest}
 use Rattle.update.proofs.Cursor.{position-room, advanced-position, entry-there, advanced-entry, advanced-end, place-entered, advanced-place}
 use borrow.Author.Needs.{needs}
