@@ -8,9 +8,10 @@ use Rattle.pair.specs.Rank.{Words}
 use Rattle.pair.proofs.Lists.{part-sets-same, part-sets-after}
 use Rattle.found.specs.Found.{found}
 use Rattle.page.specs.Page.{lineCount, page, pageNumber}
+use Rattle.page.specs.Figures.{blank}
 use Rattle.page.specs.ReadBack.{positionsIn, termIn}
 use Rattle.page.specs.Claims.{NumbersFit, NoLeadingZero, LinesAlike, PageReadBack, PagesDiffer}
-use Rattle.page.proofs.Figures.{decimal-few, decimal-leads}
+use Rattle.figures.proofs.Figures.{decimal-few, decimal-leads}
 use Rattle.page.proofs.ReadBack.{line-length, page-length, page-positions, page-term, page-feeds}
 use Rattle.page.proofs.Printing.{found-words, printed-done, printed-number, page-room}
 
@@ -20,7 +21,7 @@ numbersFit = decimal-few
 
 pub noLeadingZero : NoLeadingZero
 unfolding NoLeadingZero
-noLeadingZero = decimal-leads
+noLeadingZero = decimal-leads blank
 
 pub linesAlike : LinesAlike
 unfolding LinesAlike

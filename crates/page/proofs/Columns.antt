@@ -4,26 +4,13 @@ use native.Mathlib.Omega.{arith}
 use mathlib.Core.Path.{_≡_, refl, sym, ap, _∙_}
 use mathlib.Core.List.{List, [], _∷_, _++_, append-assoc, append-nil}
 use lib.ListN.{length, replicate, set, length-replicate, replicate-append-replicate}
-use lib.Seq.{sets, set-set, set-comm, length-sets}
+use lib.Seq.{sets, length-sets}
 use Rattle.pair.specs.Rank.{wordLimit}
-use Rattle.pair.proofs.Lists.{sets-append, sets-behind}
-use Rattle.page.specs.Figures.{blank, figure, decimal, column}
-use Rattle.page.specs.code.Putting.{leading}
-use Rattle.page.proofs.Figures.{decimal-last, leading-none, leading-some}
-
--- a byte before others may be written first
-set-sets : (vs l : List ℕ) (q p a : ℕ) → p < q → set (sets l q vs) p a ≡ sets (set l p a) q vs
-set-sets [] l q p a h = refl
-set-sets (v ∷ vs) l q p a h =
-    set-sets vs (set l q v) (suc q) p a (omega arith) ∙ ap (λ k. sets k (suc q) vs) (set-comm l q p v a (λ e. omega arith))
-
--- of bytes written twice the second stand
-sets-over : (us vs l : List ℕ) (p : ℕ) → length us ≡ length vs → sets (sets l p us) p vs ≡ sets l p vs
-sets-over [] [] l p h = refl
-sets-over [] (v ∷ vs) l p h = absurd (omega arith)
-sets-over (u ∷ us) [] l p h = absurd (omega arith)
-sets-over (u ∷ us) (v ∷ vs) l p h =
-    rw (set-sets us (set l p u) (suc p) p v (omega arith), set-set l p u v) (sets-over us vs (set l p v) (suc p) (omega arith))
+use Rattle.pair.proofs.Lists.{sets-append, sets-behind, set-sets, sets-over}
+use Rattle.figures.specs.Figures.{figure, decimal}
+use Rattle.figures.specs.code.Reading.{leading}
+use Rattle.figures.proofs.Figures.{decimal-last, leading-none, leading-some}
+use Rattle.page.specs.Figures.{blank, column}
 
 -- j of count blanks are written
 pub record Blanking (l : List ℕ) (at count : ℕ) (now : List ℕ) (j : ℕ) : Type 0 where

@@ -5,7 +5,8 @@ use mathlib.Core.List.{List}
 use lib.ListN.{length, take, drop, getD}
 use Rattle.pair.specs.Rank.{wordLimit, Words}
 use Rattle.found.specs.Found.{found}
-use Rattle.page.specs.Figures.{blank, figure, decimal, columnWidth}
+use Rattle.figures.specs.Figures.{figure, decimal}
+use Rattle.page.specs.Figures.{blank, columnWidth}
 use Rattle.page.specs.Page.{lineBytes, line, page, printed}
 use Rattle.page.specs.ReadBack.{positionsIn, termIn, lineFeedsIn}
 

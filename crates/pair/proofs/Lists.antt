@@ -7,7 +7,7 @@ use native.Mathlib.Nat.{add-zero, mul-le-mul-right}
 use native.Mathlib.Numerals.{add-one}
 use native.Mathlib.Omega.{arith}
 use lib.ListN.{length, take, drop, getD, set, length-take, length-drop}
-use lib.Seq.{sets, sets-eq, take-nil, take-suc, take-set-le, drop-set-add, drop-set-lt, take-at, drop-at, length-take-le, getD-drop, getD-take}
+use lib.Seq.{sets, set-set, set-comm, sets-eq, take-nil, take-suc, take-set-le, drop-set-add, drop-set-lt, take-at, drop-at, length-take-le, getD-drop, getD-take}
 use lib.Dec.{ltb}
 use borrow.Author.Tests.{ltb-true, ltb-false}
 
@@ -89,3 +89,17 @@ part-sets-row ws l w o i j a p d h ea ep = go (ltb i j) refl
     go false t =
         let below : j < i = omega (arith, ltb-false i j t, d) in
         ap (take w) (part-sets-after ws l a p (omega (arith, mul-le-mul-right {n = i} w below)))
+
+-- A word before others may be written first.
+pub set-sets : (vs l : List ℕ) (q p a : ℕ) → p < q → set (sets l q vs) p a ≡ sets (set l p a) q vs
+set-sets [] l q p a h = refl
+set-sets (v ∷ vs) l q p a h =
+    set-sets vs (set l q v) (suc q) p a (omega arith) ∙ ap (λ k. sets k (suc q) vs) (set-comm l q p v a (λ e. omega arith))
+
+-- Of words written twice the second stand.
+pub sets-over : (us vs l : List ℕ) (p : ℕ) → length us ≡ length vs → sets (sets l p us) p vs ≡ sets l p vs
+sets-over [] [] l p h = refl
+sets-over [] (v ∷ vs) l p h = absurd (omega arith)
+sets-over (u ∷ us) [] l p h = absurd (omega arith)
+sets-over (u ∷ us) (v ∷ vs) l p h =
+    rw (set-sets us (set l p u) (suc p) p v (omega arith), set-set l p u v) (sets-over us vs (set l p v) (suc p) (omega arith))

@@ -5,7 +5,8 @@ use mathlib.Core.List.{List, [], _∷_, _++_}
 use lib.ListN.{length, take, drop, getD, replicate}
 use Rattle.pair.specs.Rank.{Words}
 use Rattle.found.specs.Found.{found}
-use Rattle.page.specs.Figures.{lastFigures, decimal, column}
+use Rattle.figures.specs.Figures.{lastFigures, decimal}
+use Rattle.page.specs.Figures.{column}
 use Rattle.page.specs.Page.{joined, field, line, lineCount, page, printed}
 use Rattle.page.specs.ReadBack.{numberFrom, numberIn, positionsIn, termIn, lineFeedsIn}
 use Rattle.page.specs.Claims.{NumbersFit, NoLeadingZero, LinesAlike, PageReadBack, PagesDiffer}

@@ -8,12 +8,8 @@ use lib.Dec.{eqb}
 use Rattle.reader.specs.declared.cursor.Cursor.{Cursor}
 use Rattle.reader.specs.Reader.{allYielded, Yielded, posting, ended}
 use Rattle.reader.specs.code.Cursor.{CursorAfter}
-use Rattle.page.specs.Figures.{blank, decimal, column, noColumn}
+use Rattle.page.specs.Figures.{blank, column, noColumn}
 use Rattle.page.specs.Page.{lineFields, lineBytes, joined, field, line}
-
--- the figures of n before others: none where n is 0
-unfoldable pub leading : ℕ → List ℕ
-leading n = cond (eqb n 0) [] (decimal n)
 
 -- the field of what is yielded
 unfoldable pub fieldOf : Yielded → List ℕ

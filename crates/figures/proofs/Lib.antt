@@ -1,0 +1,4 @@
+pub mod Claims
+pub mod Figures
+pub mod Reading
+pub mod Writing
