@@ -11,7 +11,7 @@ use lib.ListN.{length, getD, drop, drop-of-length-le}
 use lib.Seq.{drop-cons}
 use lib.Dec.{ltb, leb, eqb}
 use Rattle.pair.specs.Rank.{wordLimit}
-use Rattle.pair.proofs.Tests.{or-cases, or-left, or-right}
+use Rattle.pair.proofs.Tests.{and-left, and-right, or-cases, or-left, or-right}
 use Rattle.figures.specs.Figures.{figure, isFigure, allFigures, worth, isNumber}
 use Rattle.figures.specs.code.Reading.{numberIn, withFigure}
 
@@ -146,3 +146,33 @@ a-figure b e =
     let l = ltb-false b 48 (or-left (ltb b 48) (ltb 57 b) e) in
     let h = ltb-false 57 b (or-right (ltb b 48) (ltb 57 b) e) in
     rw (le-leb 48 b l, le-leb b 57 h)
+
+-- a number is figures, and a word holds it
+pub number-figures : (bs : List ℕ) → isNumber bs ≡ true → allFigures bs ≡ true
+unfolding isNumber
+number-figures bs e =
+    let first = eqb (length bs) 1 || not (eqb (getD bs 0 0) (figure 0)) in
+    and-right (ltb 0 (length bs) && first) (allFigures bs) (and-left (ltb 0 (length bs) && first && allFigures bs) (ltb (worth 0 bs) wordLimit) e)
+
+pub number-small : (bs : List ℕ) → isNumber bs ≡ true → worth 0 bs < wordLimit
+unfolding isNumber
+number-small bs e =
+    let first = eqb (length bs) 1 || not (eqb (getD bs 0 0) (figure 0)) in
+    ltb-true (worth 0 bs) wordLimit (and-right (ltb 0 (length bs) && first && allFigures bs) (ltb (worth 0 bs) wordLimit) e)
+
+-- what is read tells whether bytes show a number, and which
+pub read-number : (bs : List ℕ) → numberIn bs ≢ wordLimit → (isNumber bs ≡ true) × (numberIn bs ≡ worth 0 bs)
+unfolding numberIn
+read-number bs n = go (isNumber bs) n
+  where
+    go : (t : Bool) → cond t (worth 0 bs) wordLimit ≢ wordLimit → (t ≡ true) × (cond t (worth 0 bs) wordLimit ≡ worth 0 bs)
+    go true n = (refl, refl)
+    go false n = absurd (n refl)
+
+pub read-no-number : (bs : List ℕ) → numberIn bs ≡ wordLimit → isNumber bs ≡ false
+unfolding numberIn
+read-no-number bs e = go (isNumber bs) refl e
+  where
+    go : (t : Bool) → isNumber bs ≡ t → cond t (worth 0 bs) wordLimit ≡ wordLimit → t ≡ false
+    go true k e = absurd (omega (arith, e, number-small bs k))
+    go false k e = refl

@@ -1,0 +1,4 @@
+pub mod Answers
+pub mod Gathering
+pub mod Lines
+pub mod Splitting

@@ -1,0 +1,2 @@
+-- What only the code's contracts and proofs speak of.
+pub mod Gathering
