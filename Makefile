@@ -11,7 +11,7 @@ HOST_FILES = $(wildcard host/*.c)
 HOST_HEADERS = $(wildcard host/*.h)
 BENCH_FILES = bench/bench.c bench/bench.h
 BENCH_CC = $(CC) $(WARNINGS) -O3 -Iinclude -Ibench
-TEST_FILES = tests/c/test_gameindex.c tests/c/format_judge.c tests/c/step.c tests/c/lookup.c tests/c/page.c
+TEST_FILES = tests/c/test_gameindex.c tests/c/format_judge.c tests/c/step.c tests/c/lookup.c tests/c/page.c tests/c/scores.c
 C_FILES = $(wildcard include/*.h host/*.[ch] tests/c/*.[ch] bench/*.[ch])
 
 .DELETE_ON_ERROR:

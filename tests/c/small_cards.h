@@ -18,6 +18,7 @@ void test_format_judge(void);
 void test_step(void);
 void test_lookup(void);
 void test_page(void);
+void test_scores(void);
 
 static inline void check(bool holds, const char *group, const char *what) {
     if (holds) {

@@ -11,6 +11,7 @@ int main(void) {
     test_step();
     test_lookup();
     test_page();
+    test_scores();
     printf("%d passed, %d failed\n", passed, failed);
     return failed == 0 ? 0 : 1;
 }

@@ -3,7 +3,7 @@
 use crate::ffi;
 use crate::random::Random;
 use crate::second::page::{page_bytes, LINE_BYTES, LINE_POSITIONS};
-use crate::second::{self, Configuration, LookupAnswer, PageAnswer, StepAnswer};
+use crate::second::{self, Configuration, LookupAnswer, PageAnswer, ScoresAnswer, StepAnswer};
 
 /// How often each number came out of a test's comparisons.
 #[derive(Clone, Debug, Default)]
@@ -587,4 +587,95 @@ pub fn pages(
         page(tally, card, question, &random.bytes(size), about);
     }
     page(tally, card, question, &random.bytes(need), about)
+}
+
+/// The beginning of a file, for a failure's message.
+fn shown_bytes(bytes: &[u8]) -> String {
+    let most = 400;
+    let first = &bytes[..bytes.len().min(most)];
+    let more = bytes.len() - first.len();
+    format!("\"{}\" and {more} bytes more", first.escape_ascii())
+}
+
+/// Both read a file alike: the same number, words and line, and the same words lent for the batch,
+/// those after it as they were; a refused call leaves them all; the file, and words around the lent
+/// ones, stay.
+pub fn scores(
+    tally: &mut Tally,
+    bytes: &[u8],
+    batch: &[u32],
+    about: &dyn Fn() -> String,
+) -> ScoresAnswer {
+    let mut expected_words = batch.to_vec();
+    let expected = second::scores(bytes, &mut expected_words);
+    let before = bytes.to_vec();
+    let mut lent = Guarded::new(batch);
+    let reply = ffi::scores(bytes, lent.inside());
+    let message = || {
+        format!(
+            "{}; {} words lent; a file of {} bytes: {}",
+            about(),
+            batch.len(),
+            before.len(),
+            shown_bytes(&before)
+        )
+    };
+    assert_eq!(
+        reply,
+        expected,
+        "scores gave the left, the second program the right; {}",
+        message()
+    );
+    if reply.number != 0 {
+        assert_eq!(reply.words, 0, "words of a refusal; {}", message());
+        assert!(
+            lent.inside() == batch,
+            "a refused call changed words; {}",
+            message()
+        );
+    } else {
+        assert_eq!(reply.line, 0, "a line without a fault; {}", message());
+        let kept = lent.inside()[reply.words..] == batch[reply.words..];
+        assert!(kept, "words after the batch were changed; {}", message());
+    }
+    if lent.inside() != &expected_words[..] {
+        let word = first_difference(lent.inside(), &expected_words);
+        panic!(
+            "word {} of record {} is {}, the second program's {}; {}",
+            word % 4,
+            word / 4,
+            lent.inside()[word],
+            expected_words[word],
+            message()
+        );
+    }
+    assert!(lent.guards_stand(), "scores wrote outside; {}", message());
+    assert!(before == bytes, "the file was changed; {}", message());
+    tally.note(reply.number);
+    reply
+}
+
+/// The file with just the words of its batch lent, with one too few, with none, with some more, and
+/// now and then with another number that is too few. Gives the answer to the one with just enough.
+pub fn scores_by_room(
+    tally: &mut Tally,
+    random: &mut Random,
+    bytes: &[u8],
+    about: &dyn Fn() -> String,
+) -> ScoresAnswer {
+    let need = match second::scores::fault(bytes) {
+        Some(_) => 0,
+        None => second::scores::batch(bytes).len(),
+    };
+    let mut sizes = vec![need + 1 + random.below(20)];
+    if need > 0 {
+        sizes.extend([need - 1, 0]);
+        if random.chance(1, 3) {
+            sizes.extend([need - 4, random.below(need)]);
+        }
+    }
+    for size in sizes {
+        scores(tally, bytes, &random.words(size), about);
+    }
+    scores(tally, bytes, &random.words(need), about)
 }

@@ -3,7 +3,7 @@
 use std::ops::Range;
 
 use crate::lists::Program;
-use crate::second::{LookupAnswer, PageAnswer, StepAnswer};
+use crate::second::{LookupAnswer, PageAnswer, ScoresAnswer, StepAnswer};
 
 /// What stands in a count's word before the call, so that a word left unwritten is seen.
 const UNWRITTEN: u32 = 0xA5A5_A5A5;
@@ -76,6 +76,14 @@ mod c {
             page: *mut u8,
             page_len: usize,
             lines: *mut u32,
+        ) -> u32;
+        pub fn gi_scores(
+            bytes: *const u8,
+            bytes_len: usize,
+            batch: *mut u32,
+            batch_len: usize,
+            words: *mut usize,
+            line: *mut usize,
         ) -> u32;
     }
 }
@@ -229,6 +237,27 @@ pub fn page(card: &[u32], term: u32, from: u32, to: u32, memory: &mut [u8]) -> P
         )
     };
     PageAnswer { number, lines }
+}
+
+pub fn scores(bytes: &[u8], batch: &mut [u32]) -> ScoresAnswer {
+    let (mut words, mut line) = (usize::MAX, usize::MAX);
+    // SAFETY: each pointer and length are those of one slice; the batch's is lent for writing, and
+    // the counts are words of this call.
+    let number = unsafe {
+        c::gi_scores(
+            bytes.as_ptr(),
+            bytes.len(),
+            batch.as_mut_ptr(),
+            batch.len(),
+            &mut words,
+            &mut line,
+        )
+    };
+    ScoresAnswer {
+        number,
+        words,
+        line,
+    }
 }
 
 /// The library under test, for lists of calls.

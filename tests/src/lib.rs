@@ -4,6 +4,7 @@ pub mod batches;
 pub mod cards;
 pub mod compare;
 pub mod ffi;
+pub mod files;
 pub mod lists;
 pub mod questions;
 pub mod random;

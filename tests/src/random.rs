@@ -43,6 +43,12 @@ impl Random {
         choices[self.below(choices.len())]
     }
 
+    pub fn shuffle<T>(&mut self, items: &mut [T]) {
+        for at in (1..items.len()).rev() {
+            items.swap(at, self.below(at + 1));
+        }
+    }
+
     pub fn fill(&mut self, words: &mut [u32]) {
         for word in words {
             *word = self.word();

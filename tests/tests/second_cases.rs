@@ -1,5 +1,5 @@
 // The second program by itself: the paper's cases P1 to P8, a table of judgements, lists of calls
-// against the history, and pages written out by hand.
+// against the history, and pages and scorekeepers' files written out by hand.
 
 use std::collections::BTreeSet;
 
@@ -9,6 +9,7 @@ use gameindex_tests::compare::{done, refused};
 use gameindex_tests::lists::{self, Figures, List, Second};
 use gameindex_tests::random::Random;
 use gameindex_tests::second::page::page_bytes;
+use gameindex_tests::second::scores::{self, Outcome, ScoresAnswer};
 use gameindex_tests::second::{self, block, Configuration, Pair, HIGHEST, LOWEST};
 
 fn zeros(n: u32) -> Vec<u32> {
@@ -765,4 +766,270 @@ fn pages_on_loose_cards() {
     }
     println!("pages_on_loose_cards: {checked} comparisons, {several_lines} of several lines");
     assert!(checked > 10_000 && several_lines > 1_000);
+}
+
+/// What the program prints for a text that has, and for one that lacks, the last line feed.
+fn prints(text: &str, expected: &str) {
+    assert!(!text.is_empty() && !text.ends_with('\n'), "{text}");
+    assert_eq!(scores::printed(text.as_bytes()), expected, "{text}");
+    let ended = [text, "\n"].concat();
+    assert_eq!(scores::printed(ended.as_bytes()), expected, "{text}");
+}
+
+/// The number and the words of a file with so many words lent, which must hold the batch and be as
+/// they were behind it.
+fn scores_with(text: &str, room: usize, batch: &[u32]) -> ScoresAnswer {
+    let mut lent = vec![77; room];
+    let reply = second::scores(text.as_bytes(), &mut lent);
+    let unused = vec![77; room - batch.len()];
+    assert_eq!(lent, [batch, &unused].concat(), "{text}");
+    reply
+}
+
+fn scores_answer(number: u32, words: usize, line: usize) -> ScoresAnswer {
+    ScoresAnswer {
+        number,
+        words,
+        line,
+    }
+}
+
+#[test]
+fn files_of_no_line_and_of_empty_lines() {
+    let lines = |text: &'static str| scores::lines(text.as_bytes());
+    assert!(lines("").is_empty());
+    assert_eq!(lines("\n"), [b""]);
+    assert_eq!(lines("\n\n"), [b"", b""]);
+    assert_eq!(lines("x"), [b"x"]);
+    assert_eq!(lines("x\n"), [b"x"]);
+    assert_eq!(lines("x\n\n"), [&b"x"[..], b""]);
+    assert_eq!(lines("x\ny"), [b"x", b"y"]);
+    assert_eq!(lines("\nx\r\n"), [&b""[..], b"x\r"]);
+    assert_eq!(scores::outcome(b""), Outcome::Steps(1));
+    assert_eq!(scores::printed(b""), "D\t1\n");
+    assert_eq!(scores_with("", 0, &[]), scores_answer(0, 0, 0));
+    assert_eq!(scores_with("", 3, &[]), scores_answer(0, 0, 0));
+    for (text, line) in [
+        ("\n", 1),
+        ("\n\n", 1),
+        ("A\t5\t2\n\n", 2),
+        ("A\t5\t2\n\nA\t5\t2", 2),
+        ("\nA\t5\t2\n", 1),
+        ("A\t5\t2\nA\t5\t3\n\n", 3),
+    ] {
+        assert_eq!(scores::printed(text.as_bytes()), "N\t12\n");
+        assert_eq!(scores_with(text, 0, &[]), scores_answer(12, 0, line));
+        assert_eq!(scores_with(text, 12, &[]), scores_answer(12, 0, line));
+    }
+}
+
+#[test]
+fn lines_of_records_and_of_another_form() {
+    let read = |text: &[u8]| scores::record(text);
+    assert_eq!(read(b"A\t5\t2"), Some(addition(5, 2)));
+    assert_eq!(read(b"R\t5\t2\t9"), Some(removal(5, 2, 9)));
+    assert_eq!(read(b"R\t5\t9\t2"), Some(removal(5, 9, 2)));
+    assert_eq!(read(b"A\t0\t0"), Some(addition(0, 0)));
+    assert_eq!(read(b"R\t0\t0\t0"), Some(removal(0, 0, 0)));
+    assert_eq!(
+        read(b"A\t10\t1000000000"),
+        Some(addition(10, 1_000_000_000))
+    );
+    let top = "4294967295";
+    let highest = format!("A\t{top}\t{top}");
+    assert_eq!(read(highest.as_bytes()), Some(addition(u32::MAX, u32::MAX)));
+    let highest = format!("R\t{top}\t{top}\t{top}");
+    let removed = removal(u32::MAX, u32::MAX, u32::MAX);
+    assert_eq!(read(highest.as_bytes()), Some(removed));
+    assert_eq!(highest.len() + 1, 35);
+    for text in [
+        "",
+        "A",
+        "R",
+        "A\t",
+        "A\t5",
+        "A\t5\t",
+        "A\t\t2",
+        "\t5\t2",
+        "5\t2",
+        "A\t5\t2\t",
+        "A\t5\t2\t2",
+        "A\t\t5\t2",
+        "R\t5\t2",
+        "R\t5\t2\t",
+        "R\t5\t2\t9\t",
+        "R\t5\t2\t9\t9",
+        "R\t5\t\t9",
+        "R\t\t2\t9",
+        "R\t5\t2\t\t9",
+        "a\t5\t2",
+        "r\t5\t2\t9",
+        "B\t5\t2",
+        "AA\t5\t2",
+        "A\t5\t2\r",
+        "A\t5\t2 ",
+        " A\t5\t2",
+        "A \t5\t2",
+        "A\t 5\t2",
+        "A\t5 \t2",
+        "A 5 2",
+        "A\t+5\t2",
+        "A\t-5\t2",
+        "A\t5\t-0",
+        "A\t5\t+0",
+        "A\t05\t2",
+        "A\t5\t02",
+        "A\t5\t00",
+        "R\t5\t2\t09",
+        "A\t5\t2\0",
+        "A\t5\t0x2",
+        "A\t5\t2.0",
+        "A\t5\t1e3",
+        "A\t5\t1,000",
+        "A\t5\t\u{ff12}",
+        "A\t5\t2\u{e9}",
+        "\u{feff}A\t5\t2",
+        "A\t5\t4294967296",
+        "A\t4294967296\t2",
+        "R\t5\t2\t4294967296",
+        "A\t5\t4294967297",
+        "A\t5\t9999999999",
+        "A\t5\t10000000000",
+        "A\t5\t18446744073709551618",
+        "A\t5\t00000000002",
+    ] {
+        assert_eq!(read(text.as_bytes()), None, "{text}");
+        if !text.is_empty() {
+            prints(text, "N\t12\n");
+        }
+    }
+    assert_eq!(read(b"A\t5\t\xb2"), None);
+    assert_eq!(read(b"\xc1\t5\t2"), None);
+    let long = "1".repeat(100_000);
+    assert_eq!(read(format!("A\t5\t{long}").as_bytes()), None);
+    let zeros = "0".repeat(100_000);
+    assert_eq!(read(format!("A\t5\t{zeros}").as_bytes()), None);
+}
+
+#[test]
+fn batches_of_files() {
+    let text = "R\t7\t4\t9\nA\t5\t9\nA\t7\t4\nA\t10\t1\nA\t5\t2\nR\t7\t4\t5\n";
+    let batch = [
+        1, 5, 2, 2, 1, 5, 9, 9, 2, 7, 4, 9, 1, 7, 4, 4, 2, 7, 4, 5, 1, 10, 1, 1,
+    ];
+    assert_eq!(scores::fault(text.as_bytes()), None);
+    assert_eq!(scores::batch(text.as_bytes()), batch);
+    assert_eq!(scores_with(text, 24, &batch), scores_answer(0, 24, 0));
+    assert_eq!(scores_with(text, 30, &batch), scores_answer(0, 24, 0));
+    for room in 0..24 {
+        assert_eq!(scores_with(text, room, &[]), scores_answer(10, 0, 0));
+    }
+    // 12 before 10, and its line alone is told.
+    let wrong = text.replace("10", "010");
+    for room in [0, 23, 24, 30] {
+        assert_eq!(scores_with(&wrong, room, &[]), scores_answer(12, 0, 4));
+    }
+    let swapped = text.replace("R\t7\t4\t9", "R\t7\t4\t1");
+    let words = scores::batch(swapped.as_bytes());
+    assert_eq!(words[8..12], [2, 7, 4, 1]);
+    // Many lines, sixteen to a from, the froms falling: each sixteen stay in the order of their lines.
+    let mut many = String::new();
+    for i in 0..4096 {
+        many += &format!("R\t5\t{}\t{i}\n", 1000 - i / 16);
+    }
+    let words = scores::batch(many.as_bytes());
+    assert_eq!(words.len(), 16_384);
+    for (record, at) in words.chunks(4).zip(0..) {
+        let from = 745 + at / 16;
+        let to = 16 * (255 - at / 16) + at % 16;
+        assert_eq!(record, [2, 5, from, to]);
+    }
+}
+
+#[test]
+fn the_4097th_line() {
+    let most = "A\t5\t2\n".repeat(4096);
+    let fault = |text: &str| scores::fault(text.as_bytes());
+    assert_eq!(fault(&most), None);
+    assert_eq!(fault(&most[..most.len() - 1]), None);
+    assert_eq!(scores::printed(most.as_bytes()), "D\t3\n");
+    for (end, number) in [
+        ("A\t5\t2\n", 13),
+        ("A\t5\t2", 13),
+        ("A\t5\t2\nx\n", 13),
+        ("A\t5\t2\n\n", 13),
+        ("A\t0\t0\n", 13),
+        ("\n", 12),
+        ("x", 12),
+        ("x\n", 12),
+        ("A\t5\t2\r\n", 12),
+        ("A\t5\t4294967296\n", 12),
+    ] {
+        let text = most.clone() + end;
+        assert_eq!(fault(&text), Some((number, 4097)), "{end}");
+        assert_eq!(scores::printed(text.as_bytes()), format!("N\t{number}\n"));
+        // A fault of an earlier line comes first.
+        for line in [1, 2, 4096] {
+            let mut earlier = text.clone().into_bytes();
+            earlier[6 * (line - 1)] = b'a';
+            assert_eq!(scores::fault(&earlier), Some((12, line)), "{end}");
+        }
+    }
+    // 13 also before 10, with all words left.
+    let more = most + "A\t5\t2\n";
+    assert_eq!(scores_with(&more, 0, &[]), scores_answer(13, 0, 4097));
+    assert_eq!(scores_with(&more, 16_384, &[]), scores_answer(13, 0, 4097));
+}
+
+/// A block of 8 words has room for six positions of one term, or for two terms with a position each.
+/// On a card of zeros each block takes three steps; five of the six places can be filled.
+#[test]
+fn passes_of_files() {
+    prints("A\t5\t2", "D\t3\n");
+    prints("R\t5\t2\t9", "D\t1\n");
+    prints("A\t5\t2\nR\t5\t1\t9", "D\t3\n");
+    prints("R\t5\t1\t9\nA\t5\t2", "D\t3\n");
+    // The lines of P1 in two orders, with those of P2 and P3.
+    prints("A\t5\t2\nA\t5\t9\nA\t7\t4", "D\t3\n");
+    prints("A\t7\t4\nA\t5\t9\nA\t5\t2", "D\t3\n");
+    prints("A\t7\t11\nA\t7\t4\nA\t5\t9\nA\t5\t2", "D\t3\n");
+    prints("A\t8\t1\nA\t7\t4\nA\t5\t9\nA\t5\t2", "D\t6\n");
+    let one_term = |count: u32| {
+        let lines: Vec<String> = (1..=count).rev().map(|i| format!("A\t9\t{i}")).collect();
+        lines.join("\n")
+    };
+    for (count, steps) in [(1, 3), (6, 3), (7, 6), (12, 6), (13, 9), (18, 9)] {
+        prints(&one_term(count), &format!("D\t{steps}\n"));
+    }
+    for (count, steps) in [(19, 12), (24, 12), (25, 15), (30, 15)] {
+        prints(&one_term(count), &format!("D\t{steps}\n"));
+    }
+    prints(&one_term(31), "N\t8\n");
+    prints(&one_term(4096), "N\t8\n");
+    let many_terms = |count: u32| {
+        let lines: Vec<String> = (1..=count).map(|i| format!("A\t{i}\t9")).collect();
+        lines.join("\n")
+    };
+    for (count, steps) in [(2, 3), (3, 6), (4, 6), (9, 15), (10, 15)] {
+        prints(&many_terms(count), &format!("D\t{steps}\n"));
+    }
+    prints(&many_terms(11), "N\t8\n");
+    // The batch's judge gives 6, after all faults of lines and before 8.
+    for line in [
+        "A\t0\t2",
+        "A\t5\t0",
+        "R\t0\t2\t9",
+        "R\t5\t0\t9",
+        "R\t5\t2\t0",
+        "R\t5\t9\t2",
+    ] {
+        prints(line, "N\t6\n");
+        prints(&format!("A\t5\t2\n{line}\nA\t5\t2"), "N\t6\n");
+        prints(&format!("{}\n{line}", many_terms(11)), "N\t6\n");
+        prints(&format!("{line}\nx"), "N\t12\n");
+        let many = format!("{line}\n").repeat(4096);
+        prints(&(many + "A\t5\t2"), "N\t13\n");
+    }
+    assert_eq!(scores::outcome(b"A\t5\t2"), Outcome::Steps(3));
+    assert_eq!(scores::outcome(b"A\t5\t0"), Outcome::Number(6));
 }

@@ -9,6 +9,7 @@ pub mod layout;
 pub mod lookup;
 pub mod number;
 pub mod page;
+pub mod scores;
 pub mod step;
 
 pub use batch::{applied, judge_batch};
@@ -17,4 +18,5 @@ pub use judge::judge;
 pub use layout::{card_words, format, live_pairs, Configuration, Pair, HIGHEST, LOWEST};
 pub use lookup::{lookup, run_view, run_view_number, LookupAnswer, PostingReader};
 pub use page::{page, read_page, PageAnswer};
+pub use scores::{scores, Outcome, ScoresAnswer};
 pub use step::{blocks_filled, due_write, step, step_limit, what_remains, StepAnswer};

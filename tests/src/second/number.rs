@@ -12,3 +12,5 @@ pub const NO_PLACE_LEFT: u32 = 8;
 pub const QUESTION: u32 = 9;
 pub const ANSWER_WORDS: u32 = 10;
 pub const PAGE_MEMORY: u32 = 11;
+pub const SCORES_LINE: u32 = 12;
+pub const SCORES_LINES: u32 = 13;
