@@ -21,7 +21,7 @@ help:
 	@echo 'make run     build the library and the host program; make a card, apply a batch, look up, print'
 	@echo 'make test    run the merge gate, .ci/run'
 	@echo 'make pins    write tests/pins anew, which the gate holds the source to; read its diff'
-	@echo 'make bench   time the judge and pages against plain C, steps and lookups against the judge'
+	@echo 'make bench   time the judge, pages and scores against plain C, steps and lookups against the judge'
 	@echo 'make fmt     format Rattle, Rust and C files'
 	@echo 'make clean   remove all that was built'
 
@@ -43,7 +43,7 @@ test:
 pins:
 	.ci/pins write
 
-bench: target/bench_judge target/bench_step target/bench_batches target/bench_lookup target/bench_page
+bench: target/bench_judge target/bench_step target/bench_batches target/bench_lookup target/bench_page target/bench_scores
 	target/bench_judge
 	@echo
 	target/bench_step
@@ -53,6 +53,8 @@ bench: target/bench_judge target/bench_step target/bench_batches target/bench_lo
 	target/bench_lookup
 	@echo
 	target/bench_page
+	@echo
+	target/bench_scores
 	@echo
 	cd tests && GAMEINDEX_LIB_DIR=$(CURDIR)/target/staticlib cargo run -q --release --offline --example step_speed
 
@@ -92,3 +94,6 @@ target/bench_lookup: bench/lookup.c $(BENCH_FILES) $(HEADER) $(LIBRARY)
 
 target/bench_page: bench/page.c $(BENCH_FILES) $(HEADER) $(LIBRARY)
 	$(BENCH_CC) -o $@ bench/page.c bench/bench.c $(LIBRARY)
+
+target/bench_scores: bench/scores.c bench/scores_c.c bench/scores_c.h $(BENCH_FILES) $(HEADER) $(LIBRARY)
+	$(BENCH_CC) -o $@ bench/scores.c bench/scores_c.c bench/bench.c $(LIBRARY)

@@ -1,5 +1,5 @@
 /* What the benchmarks share: the largest card, filled in several ways, where a
- * term stands on it, a batch for it, and the clock. */
+ * term stands on it, a batch for it, the clock, and numbers by chance. */
 #define _POSIX_C_SOURCE 200809L
 
 #include "bench.h"
@@ -45,6 +45,13 @@ static int by_size(const void *one, const void *other) {
 double median(double *times, size_t count) {
     qsort(times, count, sizeof *times, by_size);
     return times[count / 2];
+}
+
+uint32_t chance(uint32_t *state) {
+    *state ^= *state << 13;
+    *state ^= *state >> 17;
+    *state ^= *state << 5;
+    return *state;
 }
 
 double timed_judge(const uint32_t *card) {
@@ -172,14 +179,6 @@ void put_back(uint32_t *card, const struct before *words) {
 /* ---- the batch */
 
 enum { REMOVED = 3, REMOVED_FIRST = 100 };
-
-/* A number by chance, the same in every run. */
-static uint32_t chance(uint32_t *state) {
-    *state ^= *state << 13;
-    *state ^= *state >> 17;
-    *state ^= *state << 5;
-    return *state;
-}
 
 /* Finds the pair that a word of a block belongs to; false where it is none's. */
 static bool pair_of_word(const uint32_t *block, uint32_t word, uint32_t *term, uint32_t *position) {

@@ -1,5 +1,5 @@
 /* What the benchmarks share: the largest card, filled in several ways, where a
- * term stands on it, a batch for it, and the clock. */
+ * term stands on it, a batch for it, the clock, and numbers by chance. */
 #ifndef BENCH_H
 #define BENCH_H
 
@@ -29,6 +29,9 @@ double seconds(void);
 
 /* The median of some times, which it sorts. */
 double median(double *times, size_t count);
+
+/* The next number by chance, the same in every run; the state is not 0. */
+uint32_t chance(uint32_t *state);
 
 /* Seconds of one call of the judge on a sound card. */
 double timed_judge(const uint32_t *card);

@@ -111,18 +111,31 @@ static int show_end(const struct card_file *card, const struct progress *done) {
     return EXIT_REFUSED;
 }
 
-int run_apply(char **words) {
+/* ---- the commands */
+
+/* Reads the batch of a file and gives the exit status. */
+typedef int batch_reader(struct batch *batch, const char *path);
+
+static int apply(char **words, batch_reader *read_batch) {
     static struct batch batch;
     struct card_file card;
     int status = card_open(&card, words[0], true);
     if (status != EXIT_DONE)
         return status;
     struct progress done = {0};
-    status = batch_read(&batch, words[1]);
+    status = read_batch(&batch, words[1]);
     if (status == EXIT_DONE)
         status = run_pass(&card, &batch, &done);
     if (status == EXIT_DONE)
         status = show_end(&card, &done);
     int closed = card_close(&card);
     return status != EXIT_DONE ? status : closed;
+}
+
+int run_apply(char **words) {
+    return apply(words, batch_read);
+}
+
+int run_apply_text(char **words) {
+    return apply(words, scores_read);
 }

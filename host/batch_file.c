@@ -1,4 +1,4 @@
-/* Batch files, read in whole words. */
+/* Batches from files, of words or of lines. */
 #include "batch_file.h"
 
 #include <errno.h>
@@ -6,25 +6,54 @@
 #include <string.h>
 
 #include "card_file.h"
+#include "report.h"
 #include "words.h"
+
+static bool is_standard(const char *path) {
+    return strcmp(path, "-") == 0;
+}
+
+/* What messages call the file. */
+static const char *name_of(const char *path) {
+    return is_standard(path) ? "standard input" : path;
+}
+
+/* Reads the first bytes of a file, as many as there is room for. */
+static int read_start(const char *path, unsigned char *bytes, size_t room, size_t *length) {
+    FILE *in = is_standard(path) ? stdin : fopen(path, "rb");
+    if (in == NULL)
+        return fault(name_of(path), "%s", strerror(errno));
+    *length = fread(bytes, 1, room, in);
+    int status = ferror(in) ? fault(name_of(path), "%s", strerror(errno)) : EXIT_DONE;
+    if (in != stdin)
+        fclose(in);
+    return status;
+}
 
 int batch_read(struct batch *batch, const char *path) {
     static unsigned char bytes[BATCH_FILE_WORDS_MAX * WORD_BYTES];
-    bool standard = strcmp(path, "-") == 0;
-    const char *name = standard ? "standard input" : path;
-    FILE *in = standard ? stdin : fopen(path, "rb");
-    if (in == NULL)
-        return fault(name, "%s", strerror(errno));
-    size_t length = fread(bytes, 1, sizeof bytes, in);
-    int status = EXIT_DONE;
-    if (ferror(in))
-        status = fault(name, "%s", strerror(errno));
-    else if (length % WORD_BYTES != 0)
-        status = fault(name, "%zu bytes are not a whole number of 32-bit words", length);
+    size_t length;
+    int status = read_start(path, bytes, sizeof bytes, &length);
+    if (status != EXIT_DONE)
+        return status;
+    if (length % WORD_BYTES != 0)
+        return fault(name_of(path), "%zu bytes are not a whole number of 32-bit words", length);
     batch->length = length / WORD_BYTES;
     for (size_t i = 0; i < batch->length; i++)
         batch->words[i] = word_from(bytes + i * WORD_BYTES);
-    if (!standard)
-        fclose(in);
-    return status;
+    return EXIT_DONE;
+}
+
+int scores_read(struct batch *batch, const char *path) {
+    /* the bytes behind these change nothing */
+    static unsigned char bytes[GI_SCORES_BYTES];
+    size_t length;
+    int status = read_start(path, bytes, sizeof bytes, &length);
+    if (status != EXIT_DONE)
+        return status;
+    size_t line;
+    /* never too short, so that a refusal is of a line */
+    size_t room = (size_t)GI_RECORD_WORDS * GI_BATCH_RECORDS_MAX;
+    uint32_t number = gi_scores(bytes, length, batch->words, room, &batch->length, &line);
+    return number == GI_DONE ? EXIT_DONE : refused_line(name_of(path), line, number);
 }

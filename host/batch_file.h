@@ -1,5 +1,6 @@
-/* Batch files: the records of a batch, four words each, 32 bits, little-endian,
- * and nothing else. */
+/* Batches from files: the records of a batch as words, four to a record, 32 bits,
+ * little-endian, and nothing else; or a scorekeepers' file, one record to a line of
+ * text. */
 #ifndef BATCH_FILE_H
 #define BATCH_FILE_H
 
@@ -20,8 +21,12 @@ struct batch {
     size_t length;
 };
 
-/* Reads a batch from a file, or from standard input where path is "-". Gives
- * EXIT_DONE, or EXIT_FAULT after saying on stderr what is wrong. */
+/* Reads a batch from a file of words, or from standard input where path is "-".
+ * Gives EXIT_DONE, or EXIT_FAULT after saying on stderr what is wrong. */
 int batch_read(struct batch *batch, const char *path);
+
+/* The same from a scorekeepers' file. Gives EXIT_REFUSED after showing which line the
+ * library refuses, with its number. */
+int scores_read(struct batch *batch, const char *path);
 
 #endif

@@ -119,20 +119,23 @@ static int run_show(char **words) {
 
 struct command {
     const char *name;
-    const char *words;
-    int count; /* how many words it takes */
-    int more;  /* how many it may take after them, all or none */
+    const char *option; /* the word that must follow the name, or NULL */
+    const char *words;  /* as the help shows them, with the option */
+    int count;          /* how many words it takes, without the option */
+    int more;           /* how many it may take after them, all or none */
     const char *about;
     int (*run)(char **words); /* the words, and NULL after them */
 };
 
 static const struct command commands[] = {
-    {"format", "CARD B N", 3, 0, "make an empty index of N places of B words", run_format},
-    {"apply", "CARD BATCH", 2, 0, "apply a file of batch words, or - for standard input", run_apply},
-    {"lookup", "CARD TERM [FROM TO]", 2, 2, "show a term's running numbers, all or those in a range", run_lookup},
-    {"page", "CARD TERM [FROM TO]", 2, 2, "write the same as a page of text, five to a line", run_page},
-    {"judge", "CARD", 1, 0, "say whether the card is sound", run_judge},
-    {"show", "CARD", 1, 0, "show the configuration words and the live places", run_show},
+    {"format", NULL, "CARD B N", 3, 0, "make an empty index of N places of B words", run_format},
+    {"apply", NULL, "CARD BATCH", 2, 0, "apply a file of batch words, or - for standard input", run_apply},
+    {"apply", "--text", "--text CARD FILE", 2, 0, "apply a scorekeepers' file, or - for standard input",
+     run_apply_text},
+    {"lookup", NULL, "CARD TERM [FROM TO]", 2, 2, "show a term's running numbers, all or those in a range", run_lookup},
+    {"page", NULL, "CARD TERM [FROM TO]", 2, 2, "write the same as a page of text, five to a line", run_page},
+    {"judge", NULL, "CARD", 1, 0, "say whether the card is sound", run_judge},
+    {"show", NULL, "CARD", 1, 0, "show the configuration words and the live places", run_show},
 };
 
 enum { COMMANDS = sizeof commands / sizeof *commands };
@@ -141,10 +144,31 @@ static void usage(FILE *out) {
     fprintf(out, "usage: gameindex COMMAND CARD ...\n\n");
     for (int i = 0; i < COMMANDS; i++)
         fprintf(out, "  %-7s %-20s %s\n", commands[i].name, commands[i].words, commands[i].about);
-    fprintf(out, "\nfiles are 32-bit words, little-endian; a batch is records of four: kind (1 adds, 2 removes),\n"
-                 "term, from, to, by term, then from; an addition has from and to alike\n");
+    fprintf(out,
+            "\ncards and batches are files of 32-bit words, little-endian; a batch is records of four: kind (1 adds,\n"
+            "2 removes), term, from, to, by term, then from; an addition has from and to alike\n");
+    fprintf(out,
+            "\na scorekeepers' file is lines, in any order: A<tab>term<tab>position adds, R<tab>term<tab>from<tab>to "
+            "removes\n");
     fprintf(out, "\nexit status: 0 done, 1 refused (the number is shown), 2 a fault of a file, the output or the "
                  "command line\n");
+}
+
+/* Whether the first words are a command's name and, where it has one, its option. */
+static bool names(const struct command *command, int count, char **words) {
+    if (count == 0 || strcmp(words[0], command->name) != 0)
+        return false;
+    return command->option == NULL || (count > 1 && strcmp(words[1], command->option) == 0);
+}
+
+/* The command that the words name, or NULL. The one with an option goes before the
+ * one without, so that the option is never taken for a card. */
+static const struct command *find_command(int count, char **words) {
+    const struct command *found = NULL;
+    for (int i = 0; i < COMMANDS; i++)
+        if (names(&commands[i], count, words) && (found == NULL || commands[i].option != NULL))
+            found = &commands[i];
+    return found;
 }
 
 static int run_command(int count, char **words) {
@@ -152,10 +176,12 @@ static int run_command(int count, char **words) {
         usage(stdout);
         return EXIT_DONE;
     }
-    for (int i = 0; count > 0 && i < COMMANDS; i++) {
-        int left_over = count - 1 - commands[i].count;
-        if (strcmp(words[0], commands[i].name) == 0 && (left_over == 0 || left_over == commands[i].more))
-            return commands[i].run(words + 1);
+    const struct command *command = find_command(count, words);
+    if (command != NULL) {
+        int before = command->option == NULL ? 1 : 2; /* the words that name it */
+        int left_over = count - before - command->count;
+        if (left_over == 0 || left_over == command->more)
+            return command->run(words + before);
     }
     usage(stderr);
     return EXIT_FAULT;

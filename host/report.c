@@ -2,7 +2,6 @@
 #include "report.h"
 
 #include <inttypes.h>
-#include <stddef.h>
 #include <stdio.h>
 
 #include "card_file.h"
@@ -21,8 +20,12 @@ static const char *const meanings[] = {
     [GI_BATCH_ORDER] = "the records of the batch are not in order of term, then from",
     [GI_CARD_FULL] = "the card is full: the next block would leave no place free",
     [GI_LOOKUP_RANGE] = "term and from must be at least 1, and from at most to",
-    [GI_LOOKUP_ANSWER] = "the answer has fewer words than there are positions",
+    [GI_LOOKUP_ANSWER] = "fewer words are lent than the answer or the batch has",
     [GI_PAGE_MEMORY] = "the page memory is shorter than the page",
+    [GI_SCORES_LINE] =
+        "a line must be A<tab>term<tab>position or R<tab>term<tab>from<tab>to, ended by a line feed without "
+        "a carriage return; figures have no leading zeros and are at most 4,294,967,295",
+    [GI_SCORES_LINES] = "the file has more than 4,096 lines",
 };
 
 static const char *meaning(uint32_t number) {
@@ -36,6 +39,11 @@ int refused_on(FILE *out, const char *path, uint32_t number) {
 
 int refused(const char *path, uint32_t number) {
     return refused_on(stdout, path, number);
+}
+
+int refused_line(const char *path, size_t line, uint32_t number) {
+    printf("%s: line %zu: refused, number %" PRIu32 ": %s\n", path, line, number, meaning(number));
+    return EXIT_REFUSED;
 }
 
 int verdict(const char *path, uint32_t number) {

@@ -3,6 +3,7 @@
 #define REPORT_H
 
 #include <stdbool.h>
+#include <stddef.h>
 #include <stdint.h>
 #include <stdio.h>
 
@@ -11,6 +12,9 @@ int refused(const char *path, uint32_t number);
 
 /* The same on another stream, where standard output is not for messages. */
 int refused_on(FILE *out, const char *path, uint32_t number);
+
+/* Shows the number of a refused line, counted from 1, of a file of text, as refused does. */
+int refused_line(const char *path, size_t line, uint32_t number);
 
 /* Shows the judge's number and gives the exit status for it. */
 int verdict(const char *path, uint32_t number);

@@ -294,6 +294,8 @@ check 'the run that waited goes on' wait "$waiting"
 . "$here/host_medium.sh"
 # shellcheck source=tests/c/host_streams.sh
 . "$here/host_streams.sh"
+# shellcheck source=tests/c/host_text.sh
+. "$here/host_text.sh"
 
 # faults of files and of the command line go to stderr
 run 2 'judge a file that is not there' judge none.card
@@ -331,7 +333,7 @@ faulty_page 'a page of three bytes' odd.card 5
 run 2 'an unknown command' frobnicate new.card
 run 2 'no command'
 run 0 'help' help
-check 'six commands, in columns' [ "$(grep -Ec '^  [a-z ]{7} [][A-Z ]{20} [a-z]' out)" -eq 6 ]
+check 'seven commands, in columns' [ "$(grep -Ec '^  [a-z ]{7} ([][A-Z ]{20}|--text [][A-Z ]{13}) [a-z]' out)" -eq 7 ]
 
 echo "$passed passed, $failed failed"
 [ "$failed" -eq 0 ]

@@ -3,6 +3,8 @@
 # A state is a folder: the card file, which is what runs see and what a killed run
 # leaves; the medium; and the writes that are pending (power_cut.c).
 
+apply=(apply) # the command that the passes are made with
+
 mkdir now killed
 fresh() { # CARD: the state now: card and medium are the card, and nothing is pending
     cp "$1" now/card
@@ -11,7 +13,7 @@ fresh() { # CARD: the state now: card and medium are the card, and nothing is pe
 }
 run_now() { MEDIUM=now/medium run_cut "$@"; } # STATUS WHAT WORDS..: a run in the state now
 kill_now() { # WRITE WHEN WHAT BATCH: a run that is killed at the write
-    KILL_WRITE=$1 KILL_WHEN=$2 run_now 137 "$3: killed" apply now/card "$4"
+    KILL_WRITE=$1 KILL_WHEN=$2 run_now 137 "$3: killed" "${apply[@]}" now/card "$4"
 }
 
 # The power fails in the state now, with every choice of what becomes of the
@@ -31,7 +33,7 @@ power_fails() { # WHAT BATCH PAIRS
         if [ -n "${tried[$bytes]-}" ]; then continue; fi
         tried[$bytes]=yes
         run_cut 0 "$what, choice $choice: sound" judge left.card
-        run_cut 0 "$what, choice $choice: again" apply left.card "$batch"
+        run_cut 0 "$what, choice $choice: again" "${apply[@]}" left.card "$batch"
         check "$what, choice $choice: the pairs" [ "$(pairs left.card)" = "$expected" ]
     done
     check "$what: every choice" [ "$status" -eq 1 -a "$choice" -ge 1 ]
@@ -43,7 +45,7 @@ cuts() { # WHAT CARD BATCH PAIRS
     local what=$1 card=$2 batch=$3 expected=$4 writes write when again
     local -A tried=()
     rm -f log && fresh "$card"
-    WRITE_LOG=log run_now 0 "$what: uncut" apply now/card "$batch"
+    WRITE_LOG=log run_now 0 "$what: uncut" "${apply[@]}" now/card "$batch"
     check "$what: its pairs" [ "$(pairs now/card)" = "$expected" ]
     check "$what: it is on the medium" cmp -s now/card now/medium
     writes=$(grep -c write log)
@@ -55,7 +57,7 @@ cuts() { # WHAT CARD BATCH PAIRS
             cp now/* killed
             power_fails "$what, write $write, $when" "$batch" "$expected"
             rm -f again.log
-            WRITE_LOG=again.log run_now 0 "$what, write $write, $when: again" apply now/card "$batch"
+            WRITE_LOG=again.log run_now 0 "$what, write $write, $when: again" "${apply[@]}" now/card "$batch"
             check "$what, write $write, $when: the pairs" [ "$(pairs now/medium)" = "$expected" ]
             if [ "$when" != after ]; then continue; fi
             for again in $(seq "$(grep -c write again.log)"); do
@@ -73,7 +75,7 @@ cuts() { # WHAT CARD BATCH PAIRS
             kill_now 1 "$when" "$what, again and again, $when" "$batch"
             power_fails "$what, again and again, $when" "$batch" "$expected"
         done
-        run_now 0 "$what, again and again, $when: in the end" apply now/card "$batch"
+        run_now 0 "$what, again and again, $when: in the end" "${apply[@]}" now/card "$batch"
         check "$what, again and again, $when: the pairs" [ "$(pairs now/medium)" = "$expected" ]
     done
     failing_syncs "$@"
@@ -89,7 +91,7 @@ failing_syncs() { # WHAT CARD BATCH PAIRS
     local what=$1 card=$2 batch=$3 expected=$4 sync write
     for sync in $(seq "$(grep -c -e sync -e folder log)"); do
         rm -f failed.log && fresh "$card"
-        WRITE_LOG=failed.log FAIL_SYNC=$sync run_now 2 "$what, sync $sync fails" apply now/card "$batch"
+        WRITE_LOG=failed.log FAIL_SYNC=$sync run_now 2 "$what, sync $sync fails" "${apply[@]}" now/card "$batch"
         says_lost "$what, sync $sync fails"
         check "$what, sync $sync fails: no more is done" \
             [ "$(cat failed.log)" = "$(awk -v n="$sync" '{ if (!/write/ && ++i == n) { print $0, "fails"; exit } print }' log)" ]
@@ -98,7 +100,7 @@ failing_syncs() { # WHAT CARD BATCH PAIRS
     for write in $(seq "$(grep -c write log)"); do
         rm -f failed.log && fresh "$card"
         kill_now "$write" after "$what, write $write, the next sync fails" "$batch"
-        WRITE_LOG=failed.log FAIL_SYNC=1 run_now 2 "$what, write $write, the next sync fails" apply now/card "$batch"
+        WRITE_LOG=failed.log FAIL_SYNC=1 run_now 2 "$what, write $write, the next sync fails" "${apply[@]}" now/card "$batch"
         says_lost "$what, write $write, the next sync fails"
         check "$what, write $write, the next sync fails: no write" [ "$(cat failed.log)" = 'sync fails' ]
         power_fails "$what, write $write, the next sync fails" "$batch" "$expected"

@@ -19,6 +19,8 @@ lies() { # CARD: stream.card is still the card, or not there
     if [ -n "$1" ]; then cmp -s stream.card "$1"; else [ ! -e stream.card ]; fi
 }
 
+input=one.batch # standard input of every run
+
 # A command makes of the card what it makes with all streams open. Where standard
 # output is closed or full its exit status is 2, if it had something to show there;
 # else all is as it was. A batch from a standard input that is closed is none: the
@@ -26,7 +28,7 @@ lies() { # CARD: stream.card is still the card, or not there
 streams() { # STATUS LOST CARD COMMAND..: the exit status, that without standard output, the card before, the command
     local status=$1 lost=$2 card=$3 words=("${@:4}") made='' names
     lay "$card"
-    run "$status" "${words[*]}" "${words[@]}" <one.batch
+    run "$status" "${words[*]}" "${words[@]}" <"$input"
     cp err said
     if [ -e stream.card ]; then mv stream.card made.card && made=made.card; fi
     for names in '' 0 1 2 01 02 12 012; do
@@ -34,7 +36,7 @@ streams() { # STATUS LOST CARD COMMAND..: the exit status, that without standard
         close_streams "$names" stdbuf -oL "$program"
     done
     lay "$card"
-    expect "$lost" "${words[*]}, full" full "${words[@]}" <one.batch
+    expect "$lost" "${words[*]}, full" full "${words[@]}" <"$input"
     check "${words[*]}, full: the card" lies "$made"
     check "${words[*]}, full: it says so" says output
 }
@@ -44,7 +46,7 @@ close_streams() { # STREAMS PROGRAM..: one run of the command, with these closed
     case $names in *1*) expected=$lost ;; esac
     case ${words[-1]}$names in -0*) expected=2 after=$card ;; esac
     lay "$card"
-    expect "$expected" "$what" closed "$@" "${words[@]}" <one.batch
+    expect "$expected" "$what" closed "$@" "${words[@]}" <"$input"
     check "$what: the card" lies "$after"
     case $names in 1 | 01) check "$what: it says so" says '(in|out)put' ;; esac
 }

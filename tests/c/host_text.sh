@@ -1,0 +1,237 @@
+# A part of host.sh: scorekeepers' files, applied with apply --text.
+
+# Makes NAME.text of the lines on standard input, which have blanks for tabs, and
+# NAME.batch, the words of the same records, sorted here.
+both() { # NAME
+    tr ' ' '\t' >"$1.text"
+    # shellcheck disable=SC2059
+    printf "$(awk '{ print $1 == "A" ? 1 : 2, $2, $3, $NF }' "$1.text" | sort -s -k 2,2n -k 3,3n | awk '
+        { for (i = 1; i <= NF; i++) for (k = 0; k < 4; k++) { printf "\\x%02x", $i % 256; $i = int($i / 256) } }')" >"$1.batch"
+}
+
+# Text and words leave the same card and show the same.
+alike() { # STATUS WHAT CARD NAME: NAME.text and NAME.batch, each applied to the card
+    cp "$3" both.card
+    run "$1" "$2, as words" apply both.card "$4.batch"
+    mv both.card words.card
+    mv out said
+    cp "$3" both.card
+    run "$1" "$2, as text" apply --text both.card "$4.text"
+    check "$2: the same card" cmp -s both.card words.card
+    check "$2: the same is shown" cmp -s out said
+    check "$2: no other message" [ ! -s err ]
+}
+
+# ---- files that are applied
+
+both three <<<$'A 7 4\nA 5 9\nA 5 2'
+alike 0 'lines that fall' new.card three
+check 'it is the batch in order' cmp -s three.batch one.batch
+check 'the words of case 1' [ "$(words both.card 0)" = " 1 8 4 0 1 0 0 0 5 2 0 0 0 0 0 0 5 2 2 9 7 1 4 0 $(yes 0 | head -n 24 | tr '\n' ' ')" ]
+both more <<<'A 8 1'
+alike 0 'one line' case1.card more
+head -c -1 more.text >bare.text
+cp more.batch bare.batch
+check 'a file without a line feed' [ "$(tail -c 1 bare.text)" = 1 ]
+alike 0 'a last line without its line feed' case1.card bare
+: >none.text
+alike 0 'an empty file' new.card none
+check 'one step' grep -q 'finished; 1 step, as many writes (0 blocks, 0 map entries, 1 configuration)' out
+alike 0 'an empty file, on a card with pairs' case1.card none
+both mixed <<<$'R 8 2 2\nA 7 9\nA 8 9\nR 5 1 5\nA 1 1\nR 9 1 7\nA 8 2\nA 8 2\nR 7 4 4'
+alike 0 'additions and removals' case1.card mixed
+check 'their pairs' [ "$(pairs both.card)" = $'1 1\n5 9\n7 9\n8 2\n8 9' ]
+both highest <<<$'A 4294967295 4294967295\nA 1 4294967295\nA 4294967295 1\nR 4294967295 2 4294967295'
+alike 0 'the highest figures' case1.card highest
+run 0 'format a card for many lines' format wide.card 256 40
+seq 0 4095 | awk '{ k = $1 * 1597 % 4096; print "A", 1 + int(k / 64), 1 + k % 64 }' | both many
+alike 0 '4,096 lines in disorder' wide.card many
+check 'every pair' [ "$(pairs both.card)" = "$(seq 0 4095 | awk '{ print 1 + int($1 / 64), 1 + $1 % 64 }')" ]
+mv both.card wide.card
+seq 0 4095 | awk '{ print "R", 1 + 4095 % ($1 + 1) % 64, 1 + $1 % 60, 1 + $1 % 60 + $1 % 4 }' | both fewer
+alike 0 '4,096 removals that overlap' wide.card fewer
+seq 0 4095 | awk '{ printf "R 42949%05d 42949%05d 4294967295\n", 67295 - $1 % 64, 60000 - $1 }' | both most
+check 'the longest file' [ "$(stat -c %s most.text)" -eq 143360 ]
+alike 0 'the longest file' case1.card most
+
+# from standard input, and files with names like options
+cp case1.card words.card
+run 0 'from a file' apply words.card mixed.batch
+cp case1.card both.card
+run 0 'from standard input' apply --text both.card - <mixed.text
+check 'the same card as from the file' cmp -s both.card words.card
+cp case1.card both.card
+run 0 'from a pipe, in two parts' apply --text both.card - < <(head -c 20 mixed.text && sleep 0.1 && tail -c +21 mixed.text)
+check 'the same card' cmp -s both.card words.card
+cp case1.card ./-both.card
+cp mixed.text ./-mixed.text
+run 0 'names that begin with a dash' apply --text -both.card -mixed.text
+check 'the same card' cmp -s ./-both.card words.card
+
+# ---- files that are refused
+
+form='a line must be A<tab>term<tab>position or R<tab>term<tab>from<tab>to, ended by a line feed without a carriage return; figures have no leading zeros and are at most 4,294,967,295'
+too_many='the file has more than 4,096 lines'
+bad() { # NUMBER LINE WHAT FILE: refused at the line, and the card stands
+    local meaning=$form
+    if [ "$1" -eq 13 ]; then meaning=$too_many; fi
+    cp case1.card before.card
+    run 1 "$3" apply --text case1.card "$4" <line.text
+    check "$3: the message" cmp -s out <(echo "${4/#-/standard input}: line $2: refused, number $1: $meaning")
+    check "$3: no other message" [ ! -s err ]
+    check "$3: the card stands" cmp -s case1.card before.card
+}
+good=$'A\t5\t2\n'
+bad_line() { # WHAT LINE: the line, as printf has it, is refused wherever it stands
+    printf "$2\n%s" "$good$good" >line.text
+    bad 12 1 "$1, first" line.text
+    printf "%s$2\n%s" "$good" "$good" >line.text
+    bad 12 2 "$1, in the middle" line.text
+    printf "%s$2\n" "$good$good" >line.text
+    bad 12 3 "$1, last" line.text
+    printf "%s$2" "$good$good" >line.text
+    bad 12 3 "$1, last without a line feed" line.text
+}
+bad_line 'a carriage return' 'A\t5\t2\r'
+bad_line 'a small letter' 'a\t5\t2'
+bad_line 'blanks' 'A 5 2'
+bad_line 'a field too few' 'R\t5\t2'
+bad_line 'a field too many' 'A\t5\t2\t2'
+bad_line 'a figure missing' 'A\t5\t'
+bad_line 'a leading zero' 'A\t05\t2'
+bad_line 'a figure over 32 bits' 'R\t5\t2\t4294967296'
+bad_line 'a zero byte' 'A\t5\t2\0'
+bad_line 'a mark of the byte order' '\xef\xbb\xbfA\t5\t2'
+bad 12 3 'a bad line from standard input' -
+printf '\n' >line.text
+bad 12 1 'an empty line alone' line.text
+printf '%s\n' "$good" >line.text
+bad 12 2 'an empty line at the end' line.text
+printf 'A\t5\n%sA\t5\n' "$good" >line.text
+bad 12 1 'two bad lines' line.text
+sed 's/$/\r/' mixed.text >returns.text
+bad 12 1 'carriage returns in all lines' returns.text
+
+# too many lines; what settles it is in the first 143,395 bytes
+longest=$'R\t4294967295\t4294967295\t4294967295'
+{ cat most.text && printf '%s\n' "$longest"; } >line.text
+bad 13 4097 '4,097 lines' line.text
+{ cat most.text && printf '%s' "$longest"; } >line.text
+bad 13 4097 '4,097 lines, the last without a line feed' line.text
+{ cat most.text && printf '%s\nbad' "$longest"; } >line.text
+bad 13 4097 'a bad line behind them' line.text
+{ cat most.text && printf '%s\t' "$longest"; } >line.text
+bad 12 4097 'line 4,097 too long' line.text
+{ cat most.text && echo; } >line.text
+bad 12 4097 'line 4,097 empty' line.text
+{ head -n 4095 most.text && printf 'bad\n%s' "$good"; } >line.text
+bad 12 4096 'line 4,096 bad, of 4,097' line.text
+{ echo && cat most.text; } >line.text
+bad 12 1 'line 1 empty, of 4,097' line.text
+
+# megabytes
+yes $'A\t5\t2' | head -n 1000000 >line.text
+bad 13 4097 'a million lines' line.text
+head -c 4000000 /dev/zero | tr '\0' 7 >line.text
+bad 12 1 'a line of four million figures' line.text
+{ cat most.text && head -c 4000000 /dev/zero; } >line.text
+bad 12 4097 '4,096 lines and four million zero bytes' line.text
+rm line.text
+
+# what the library refuses of a batch it refuses of its text, with the same number
+not_applied() { # NUMBER WHAT CARD NAME
+    alike 1 "$2" "$3" "$4"
+    check "$2: it names number $1" grep -q "^both.card: refused, number $1:" out
+    check "$2: the card stands" cmp -s both.card "$3"
+}
+both wrong <<<$'A 5 2\nA 0 2'
+not_applied 6 'a term 0' case1.card wrong
+both wrong <<<$'A 5 0\nA 5 2'
+not_applied 6 'a position 0' case1.card wrong
+both wrong <<<'R 5 0 9'
+not_applied 6 'a removal from 0' case1.card wrong
+both wrong <<<$'A 6 1\nR 5 9 8\nA 4 1'
+not_applied 6 'from above to' case1.card wrong
+not_applied 4 'a card that is not sound' live.card three
+not_applied 1 'an empty card' empty.card three
+run 0 'format a card of two places' format full.card 8 2
+run 0 'fill it' apply --text full.card three.text
+alike 1 'a card without a place' full.card more
+check 'it names number 8' grep -q '^both.card: refused, number 8:' out
+check 'it shows what was done' grep -q 'stopped; 3 steps' out
+mv both.card open.card
+not_applied 8 'the same again' open.card more
+alike 0 'an empty file ends the pass' open.card none
+
+# ---- faults
+
+faulty_text() { # WHAT MESSAGE FILE: at fault, with the message alone, and the card stands
+    cp case1.card before.card
+    run 2 "$1" apply --text case1.card "$3"
+    check "$1: the message" cmp -s err <(echo "gameindex: $3: $2")
+    check "$1: nothing else is shown" [ ! -s out ]
+    check "$1: the card stands" cmp -s case1.card before.card
+}
+faulty_text 'a file that is not there' 'No such file or directory' none/three.text
+faulty_text 'a file in place of a folder' 'Not a directory' three.text/none
+faulty_text 'a folder' 'Is a directory' .
+run 2 'a card that is not there' apply --text none.card three.text
+check 'no card is made' [ ! -e none.card ]
+
+run 0 'help' help
+mv out usage
+check 'help on the command' grep -qx "  apply   --text CARD FILE     apply a scorekeepers' file, or - for standard input" usage
+check 'help on its file' grep -qx "a scorekeepers' file is lines, in any order: A<tab>term<tab>position adds, R<tab>term<tab>from<tab>to removes" usage
+misused() { # WHAT WORDS..: a fault of the command line: the help on standard error alone
+    run 2 "$1" "${@:2}"
+    check "$1: the message" cmp -s err usage
+    check "$1: nothing else is shown" [ ! -s out ]
+}
+cp new.card ./--text # an option is no card, whatever files there are
+misused 'no card and no file' apply --text
+misused 'no file' apply --text new.card
+misused 'a batch file alone' apply --text one.batch
+misused 'a word too many' apply --text new.card three.text three.text
+misused 'the option behind the card' apply new.card --text three.text
+misused 'another option' apply --words new.card one.batch
+misused 'the option of another command' judge --text new.card
+check 'no card is touched' cmp -s new.card ./--text
+run 0 'a card with the name of the option' apply ./--text one.batch
+
+# ---- the medium
+
+cp case1.card log.card
+WRITE_LOG=words.log run_cut 0 'the writes of words' apply log.card mixed.batch
+cp case1.card log.card
+WRITE_LOG=text.log run_cut 0 'the writes of text' apply --text log.card mixed.text
+check 'they are the same, and synced alike' cmp -s text.log words.log
+cp case1.card log.card
+WRITE_LOG=refused.log run_cut 1 'the writes of text that is refused' apply --text log.card returns.text
+check 'there are none' [ "$(tr '\n' ',' <refused.log)" = 'sync,folder,' ]
+
+# cuts; and a pass that was cut is completed with the same batch, also in its other form
+apply=(apply --text)
+both change <<<$'R 9 1 7\nA 8 9\nR 8 2 2\nR 5 1 5\nA 8 6\nA 1 1\nA 7 9'
+run 0 'grow, as text' apply --text another.card <(tr ' ' '\t' <<<$'A 8 3\nA 8 2\nA 8 1\nA 7 4\nA 5 9\nA 5 2')
+changed=$'1 1\n5 9\n7 4\n7 9\n8 1\n8 3\n8 6\n8 9'
+cuts 'change, as text' another.card change.text "$changed"
+for forms in 'apply --text,change.text,apply,change.batch' 'apply,change.batch,apply --text,change.text'; do
+    IFS=, read -r begun first ended second <<<"$forms"
+    read -ra apply <<<"$begun"
+    read -ra end <<<"$ended"
+    for write in 1 2 3 4 5 6; do
+        fresh another.card
+        kill_now "$write" after "$begun, write $write" "$first"
+        run_now 0 "$begun, write $write, then $ended" "${end[@]}" now/card "$second"
+        check "$begun, write $write, then $ended: the pairs" [ "$(pairs now/medium)" = "$changed" ]
+    done
+done
+
+# ---- the standard streams
+
+input=more.text
+streams 0 2 kept.card apply --text stream.card more.text
+streams 0 2 kept.card apply --text stream.card -
+streams 1 2 kept.card apply --text stream.card returns.text
+streams 2 2 kept.card apply --text stream.card 'no such.text'
+streams 2 2 kept.card apply --text stream.card
