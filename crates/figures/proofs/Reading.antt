@@ -59,6 +59,7 @@ read-on v b bs = go (isFigure b) refl (ltb (10 * v + (b - figure 0)) wordLimit) 
   where
     w : ℕ
     w = 10 * v + (b - figure 0)
+
     go : (t : Bool) → isFigure b ≡ t → (u : Bool) → ltb (10 * v + (b - figure 0)) wordLimit ≡ u → readFrom v (b ∷ bs) ≡ readFrom (withFigure v b) bs
     go false t u k = rw (figured-other v b t) (read-other v b bs t ∙ sym (read-large wordLimit bs (omega arith)))
     go true t true k = read-figure v b bs t ∙ ap (λ x. readFrom x bs) (sym (figured v b t (ltb-true (10 * v + (b - figure 0)) wordLimit k)))
@@ -131,6 +132,7 @@ zero-read bs e =
     turned true b e = sym e
     turned false true e = refl
     turned false false e = sym e
+
     fails : (a b c : Bool) (n : ℕ) → wordLimit ≡ cond (a && false && b && c) n wordLimit
     fails true b c n = refl
     fails false b c n = refl

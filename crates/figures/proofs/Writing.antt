@@ -65,7 +65,7 @@ writing-turn {l} {at} {n} {now} {before} {rest} {b} w h e =
       count = count;
       ofRest = λ k. leading-some (rest / 10) (λ z. k (count ∙ ap length (leading-none (rest / 10) z)));
       same = ap (λ m. set m (at + (before - 1)) b) (w .same ∙ ap (λ i. sets l i (w .done)) s)
-      ∙ set-sets (w .done) l (suc (at + (before - 1))) (at + (before - 1)) b (omega arith);
+          ∙ set-sets (w .done) l (suc (at + (before - 1))) (at + (before - 1)) b (omega arith);
     }
 
 pub writing-end :

@@ -9,6 +9,7 @@ use Rattle.lookup.specs.declared.LookupAnswer.{LookupAnswer}
 use Rattle.lookup.specs.Answer.{numberOf, countOf, blocksReadOf}
 use Rattle.found.specs.Found.{Lookup}
 use Rattle.page.specs.Page.{Printed}
+use Rattle.lines.specs.Lines.{Scored}
 
 abbrev pub flag : Bool → ℕ
 flag b = cond b 1 0
@@ -45,3 +46,10 @@ pub record Paged (number lines : ℕ) (memory : List ℕ) (p : Printed) : Type 0
   pub ofNumber : number ≡ p .number
   pub ofLines : lines ≡ p .lines
   pub ofMemory : memory ≡ p .memory
+
+-- the reply, the numbers filled in and the batch words left are those of a scorekeepers' file
+pub record ReadScores (number words line : ℕ) (batch : List ℕ) (s : Scored) : Type 0 where
+  pub ofNumber : number ≡ s .number
+  pub ofWords : words ≡ s .words
+  pub ofLine : line ≡ s .line
+  pub ofBatch : batch ≡ s .batch

@@ -5,11 +5,12 @@ ghost use Rattle.card.specs.Sound.{judged};
 ghost use Rattle.span.specs.Span.{writeSpan};
 ghost use Rattle.update.specs.Step.{step};
 ghost use Rattle.pair.specs.Bounds.{lowest, highest};
-ghost use Rattle.gameindex.specs.Flat.{flag, Stepped, Spanned, Filled, LookedUp, Paged};
+ghost use Rattle.gameindex.specs.Flat.{flag, Stepped, Spanned, Filled, LookedUp, Paged, ReadScores};
 ghost use Rattle.found.specs.Found.{lookup};
 ghost use Rattle.found.specs.Views.{Viewed};
 ghost use Rattle.reader.specs.Reader.{read, ReadOff};
 ghost use Rattle.page.specs.Page.{printed};
+ghost use Rattle.lines.specs.Lines.{scored};
 use lookup::LookupAnswer;
 use page::PageAnswer;
 
@@ -184,4 +185,20 @@ pub extern "C" fn gi_page(
             0
         }
     }
+}
+
+// Reads a scorekeepers' file into the first batch words; the reply is the number, 0 where it is done. The words of the batch and the line that earned a number 12 or 13 go behind the last two references.
+#[no_mangle]
+pub extern "C" fn gi_scores(
+    bytes: &[u8],
+    batch: &mut [u32],
+    words: &mut usize,
+    line: &mut usize,
+) -> u32
+    ensures { λ r. ⌜ ReadScores r (now (words .exit)) (now (line .exit)) (now (batch .exit)) (scored (now (bytes .entry)) (now (batch .entry))) ⌝ }
+{
+    let scores = lines::read_batch(bytes, batch);
+    *words = scores.words;
+    *line = scores.line;
+    scores.number
 }

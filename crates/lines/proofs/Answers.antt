@@ -116,7 +116,7 @@ module _ (bytes batch : List ℕ) (none : fault bytes .number ≡ 0) (quiet : fa
 first-words : (rs : List (List ℕ)) (l : List ℕ) (n : ℕ) → length (laid rs) ≡ n → n ≤ length l → take n (sets l 0 (laid rs)) ≡ laid rs
 first-words rs l n e h = ap (take n) (sets-eq (laid rs) l 0 (omega (arith, e, h))) ∙ take-at (laid rs) (drop (0 + length (laid rs)) l) n e
 
-records-many : (bytes : List ℕ) → length (lineRecords bytes) ≡ length (lines bytes)
+pub records-many : (bytes : List ℕ) → length (lineRecords bytes) ≡ length (lines bytes)
 unfolding lineRecords
 records-many bytes = length-map (lines bytes) lineRecord
 
@@ -144,40 +144,40 @@ sort-refused ws batch n e d = go (sortable 4 1 ws batch) refl
 
 -- what the sort answers of the records gathered
 module _
-  (bytes batch l : List ℕ) {g : Gathered} {now : List ℕ} (a : Gathers bytes l g now) (none : g .number ≡ 0) (room : length l ≡ 4 * recordsMost)
+    (bytes batch l : List ℕ) {g : Gathered} {now : List ℕ} (a : Gathers bytes l g now) (none : g .number ≡ 0) (room : length l ≡ 4 * recordsMost)
   where
-  abbrev ws : List ℕ
-  ws = take (4 * g .count) now
+    abbrev ws : List ℕ
+    ws = take (4 * g .count) now
 
-  wide : Wide 4 (lineRecords bytes)
-  wide = records-wide bytes (sym (a .ofNumber) ∙ none)
+    wide : Wide 4 (lineRecords bytes)
+    wide = records-wide bytes (sym (a .ofNumber) ∙ none)
 
-  quiet : fault bytes .line ≡ 0
-  quiet = quiet-none bytes (sym (a .ofNumber) ∙ none)
+    quiet : fault bytes .line ≡ 0
+    quiet = quiet-none bytes (sym (a .ofNumber) ∙ none)
 
-  long : length (laid (lineRecords bytes)) ≡ 4 * g .count
-  long = laid-length 4 (lineRecords bytes) wide ∙ ap (λ n. 4 * n) (records-many bytes ∙ sym (a .many none))
+    long : length (laid (lineRecords bytes)) ≡ 4 * g .count
+    long = laid-length 4 (lineRecords bytes) wide ∙ ap (λ n. 4 * n) (records-many bytes ∙ sym (a .many none))
 
-  words-laid : ws ≡ laid (lineRecords bytes)
-  words-laid = ap (take (4 * g .count)) (a .stand none) ∙ first-words (lineRecords bytes) l (4 * g .count) long (omega (arith, room, a .few))
+    words-laid : ws ≡ laid (lineRecords bytes)
+    words-laid = ap (take (4 * g .count)) (a .stand none) ∙ first-words (lineRecords bytes) l (4 * g .count) long (omega (arith, room, a .few))
 
-  pub words-length : length ws ≡ 4 * g .count
-  words-length = ap length words-laid ∙ long
+    pub words-length : length ws ≡ 4 * g .count
+    words-length = ap length words-laid ∙ long
 
-  batch-long : length (batchOf bytes) ≡ 4 * g .count
-  batch-long = batch-length bytes wide ∙ ap (λ n. 4 * n) (records-many bytes ∙ sym (a .many none))
+    batch-long : length (batchOf bytes) ≡ 4 * g .count
+    batch-long = batch-length bytes wide ∙ ap (λ n. 4 * n) (records-many bytes ∙ sym (a .many none))
 
-  pub answers-unsorted :
-      {after : List ℕ} → false ≡ sort 4 1 ws batch .done → after ≡ sort 4 1 ws batch .work →
-      Answers (scored bytes batch) (record { number = 10; words = 0; line = 0 }) after
-  answers-unsorted d e =
-      let r = sort-refused ws batch (g .count) words-length d in
-      rw (e ∙ r .1) (answers-short bytes batch (sym (a .ofNumber) ∙ none) quiet (omega (arith, r .0, words-length, batch-long)))
+    pub answers-unsorted :
+        {after : List ℕ} → false ≡ sort 4 1 ws batch .done → after ≡ sort 4 1 ws batch .work →
+        Answers (scored bytes batch) (record { number = 10; words = 0; line = 0 }) after
+    answers-unsorted d e =
+        let r = sort-refused ws batch (g .count) words-length d in
+        rw (e ∙ r .1) (answers-short bytes batch (sym (a .ofNumber) ∙ none) quiet (omega (arith, r .0, words-length, batch-long)))
 
-  pub answers-sorted :
-      {after : List ℕ} → true ≡ sort 4 1 ws batch .done → after ≡ sort 4 1 ws batch .work →
-      Answers (scored bytes batch) (record { number = 0; words = 4 * g .count; line = 0 }) after
-  answers-sorted d e =
-      let r = sort-done ws batch (g .count) words-length d in
-      answers-read bytes batch (sym (a .ofNumber) ∙ none) quiet (omega (arith, r .0, words-length, batch-long)) (sym batch-long)
-      (e ∙ r .1 ∙ ap (sets batch 0) (ap (sortedWords 4 1) words-laid ∙ sorted-batch bytes wide))
+    pub answers-sorted :
+        {after : List ℕ} → true ≡ sort 4 1 ws batch .done → after ≡ sort 4 1 ws batch .work →
+        Answers (scored bytes batch) (record { number = 0; words = 4 * g .count; line = 0 }) after
+    answers-sorted d e =
+        let r = sort-done ws batch (g .count) words-length d in
+        answers-read bytes batch (sym (a .ofNumber) ∙ none) quiet (omega (arith, r .0, words-length, batch-long)) (sym batch-long)
+        (e ∙ r .1 ∙ ap (sets batch 0) (ap (sortedWords 4 1) words-laid ∙ sorted-batch bytes wide))

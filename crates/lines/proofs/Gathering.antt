@@ -127,9 +127,9 @@ module _ {bytes l now : List ℕ} {count at end : ℕ} (u : Record) (g : Gatheri
         wide = wide-one 4 done r (g .wide) refl;
         many = length-append done (r ∷ []) ∙ omega (arith, g .many);
         same = sets-behind l 0 (laid done) r {w = 4 * count} (g .same) (laid-length 4 done (g .wide) ∙ ap (λ q. 4 * q) (g .many)) (rw zero-add a)
-        ∙ ap (sets l 0) (sym (laid-append done (r ∷ []) ∙ ap (λ q. laid done ++ q) (laid-one r)));
+            ∙ ap (sets l 0) (sym (laid-append done (r ∷ []) ∙ ap (λ q. laid done ++ q) (laid-one r)));
         rest = g .rest ∙ ap (λ ls. done ++ map lineRecord ls) (line-at bytes at end h e) ∙ ap (λ q. done ++ q ∷ map lineRecord later) is
-        ∙ sym (append-assoc done (r ∷ []) (map lineRecord later));
+            ∙ sym (append-assoc done (r ∷ []) (map lineRecord later));
         faults = faults-line ∙ fault-later count line later (number-none count line (some-words n) (omega (arith, g .few, m))) ∙ ap (λ i. faultFrom i later) one;
       }
 

@@ -1,4 +1,5 @@
 pub mod Answers
 pub mod Gathering
 pub mod Lines
+pub mod Room
 pub mod Splitting

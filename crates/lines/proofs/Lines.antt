@@ -68,9 +68,9 @@ addition-fields t r =
     ⊎-elim
     (λ e. rw e)
     (λ h.
-      ap (λ fs. recordOf ((letterA ∷ []) ∷ t ∷ fs)) (fields-next r h)
-      ∙ addition-more t (take (before tab r) r) (fields (drop (suc (before tab r)) r)) (fields-some (drop (suc (before tab r)) r))
-      ∙ rw (tab-no-number r h, and-false (isNumber t)))
+    ap (λ fs. recordOf ((letterA ∷ []) ∷ t ∷ fs)) (fields-next r h)
+    ∙ addition-more t (take (before tab r) r) (fields (drop (suc (before tab r)) r)) (fields-some (drop (suc (before tab r)) r))
+    ∙ rw (tab-no-number r h, and-false (isNumber t)))
     (some-field r)
 
 -- the record of R, a term, from, and what stands behind its tab
@@ -83,9 +83,9 @@ removal-fields t a r =
     ⊎-elim
     (λ e. rw e)
     (λ h.
-      ap (λ fs. recordOf ((letterR ∷ []) ∷ t ∷ a ∷ fs)) (fields-next r h)
-      ∙ removal-more t a (take (before tab r) r) (fields (drop (suc (before tab r)) r)) (fields-some (drop (suc (before tab r)) r))
-      ∙ rw (tab-no-number r h, and-false (isNumber t && isNumber a)))
+    ap (λ fs. recordOf ((letterR ∷ []) ∷ t ∷ a ∷ fs)) (fields-next r h)
+    ∙ removal-more t a (take (before tab r) r) (fields (drop (suc (before tab r)) r)) (fields-some (drop (suc (before tab r)) r))
+    ∙ rw (tab-no-number r h, and-false (isNumber t && isNumber a)))
     (some-field r)
 
 -- too few fields
@@ -232,10 +232,10 @@ module _ (r : List ℕ) {j : ℕ} (one : j ≡ 0 + before tab (drop 0 r)) where
           sym
           (⊎-elim
           (λ l.
-            ⊎-elim
-            (λ m. record-of ∙ rw (reads-none (take j r) first m))
-            (λ m. record-of ∙ rw (reads-none (take (k - suc j) (drop (suc j) r)) (second ∙ ap numberIn middle) m, and-false a))
-            (or-cases (eqb x wordLimit) (eqb y wordLimit) l))
+          ⊎-elim
+          (λ m. record-of ∙ rw (reads-none (take j r) first m))
+          (λ m. record-of ∙ rw (reads-none (take (k - suc j) (drop (suc j) r)) (second ∙ ap numberIn middle) m, and-false a))
+          (or-cases (eqb x wordLimit) (eqb y wordLimit) l))
           (λ l. record-of ∙ rw (reads-none (drop (suc k) r) (third ∙ ap numberIn (behind r k)) l, and-false (a && b)))
           (or-cases (eqb x wordLimit || eqb y wordLimit) (eqb z wordLimit) t))
 

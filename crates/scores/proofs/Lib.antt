@@ -1,0 +1,4 @@
+pub mod Fresh
+pub mod Outcomes
+pub mod Passing
+pub mod Printing
