@@ -1,6 +1,6 @@
 // The outcome of a scorekeepers' file: its batch taken through a pass on a fresh card, and the line that is printed of it.
 ghost use mathlib.Core.Path.{_≡_};
-ghost use Prim.Native.Nat.{_<_};
+ghost use Prim.Native.Nat.{_<_, _≤_};
 ghost use lib.ListN.{length};
 ghost use lib.Seq.{sets};
 ghost use Rattle.pair.specs.Rank.{wordLimit};
@@ -64,6 +64,7 @@ pub fn outcome_of(bytes: &[u8]) -> Outcome
 // Writes a letter, a tab, the figures of a number and a line feed, and answers how many bytes these are.
 fn put_line(line: &mut [u8; LINE_BYTES], letter: u8, n: u32) -> usize
     ensures { λ r. ⌜ (r ≡ length (printedLine letter n)) × (now (line .exit) ≡ sets (now (line .entry)) 0 (printedLine letter n)) ⌝ }
+    ensures { λ r. ⌜ r ≤ 13 ⌝ }
 {
     line[0] = letter;
     line[1] = b'\t';
@@ -76,6 +77,7 @@ fn put_line(line: &mut [u8; LINE_BYTES], letter: u8, n: u32) -> usize
 // Writes the line that is printed of an outcome, and answers how many bytes it has.
 pub fn put_outcome(line: &mut [u8; LINE_BYTES], outcome: Outcome) -> usize
     ensures { λ r. ⌜ (r ≡ length (printed outcome)) × (now (line .exit) ≡ sets (now (line .entry)) 0 (printed outcome)) ⌝ }
+    ensures { λ r. ⌜ r ≤ 13 ⌝ }
 {
     match outcome {
         Outcome::Finished(steps) => put_line(line, b'D', steps),

@@ -34,8 +34,11 @@ returns c =
     let s = c .before .before .before in
     let count = c .figure-count .ensures in
     (
-      omega (arith, count, line-length (s .args .letter) (s .args .n)),
-      line-put (s .args .line .now) (s .args .letter) (s .args .n) _ (c .before .before .put-number-arg .given .0 .1) (omega arith) (c .before .put-number .ensures) (ap (λ k. 2 + k) count),
+      (
+        omega (arith, count, line-length (s .args .letter) (s .args .n)),
+        line-put (s .args .line .now) (s .args .letter) (s .args .n) _ (c .before .before .put-number-arg .given .0 .1) (omega arith) (c .before .put-number .ensures) (ap (λ k. 2 + k) count),
+      ),
+      omega (arith, count, decimal-few (s .args .n) (omega arith)),
     )
 
 pub put-line-spec : {M : Type 1} → statement M
