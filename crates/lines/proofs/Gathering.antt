@@ -60,7 +60,7 @@ its-words : (u : Record) (line : List ℕ) → wordsOf u ≡ lineRecord line →
 unfolding wordsOf
 its-words u line e n = sym e ∙ rw (ne-eqb (u .kind) 0 n)
 
-number-other : (i : ℕ) (line : List ℕ) → lineRecord line ≡ [] → lineNumber i line ≡ 12
+pub number-other : (i : ℕ) (line : List ℕ) → lineRecord line ≡ [] → lineNumber i line ≡ 12
 unfolding lineNumber firstOf
 number-other i line e = rw e
 
@@ -73,11 +73,11 @@ unfolding lineNumber firstOf
 number-none i line h l = rw (ne-eqb (length (lineRecord line)) 0 (λ z. omega (arith, z, h)), lt-leb recordsMost i l)
 
 -- the fault of lines by the number of the first
-fault-here : (i : ℕ) (line : List ℕ) (ls : List (List ℕ)) {n : ℕ} → lineNumber i line ≡ suc n → faultFrom i (line ∷ ls) ≡ record { number = suc n; line = suc i }
+pub fault-here : (i : ℕ) (line : List ℕ) (ls : List (List ℕ)) {n : ℕ} → lineNumber i line ≡ suc n → faultFrom i (line ∷ ls) ≡ record { number = suc n; line = suc i }
 unfolding faultFrom
 fault-here i line ls {n} e = rw (e, ne-eqb (suc n) 0 (λ z. omega arith))
 
-fault-later : (i : ℕ) (line : List ℕ) (ls : List (List ℕ)) → lineNumber i line ≡ 0 → faultFrom i (line ∷ ls) ≡ faultFrom (suc i) ls
+pub fault-later : (i : ℕ) (line : List ℕ) (ls : List (List ℕ)) → lineNumber i line ≡ 0 → faultFrom i (line ∷ ls) ≡ faultFrom (suc i) ls
 unfolding faultFrom
 fault-later i line ls e = rw e
 

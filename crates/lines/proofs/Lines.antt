@@ -44,7 +44,7 @@ some-field bs = go (ltb (before tab bs) (length bs)) refl
     go true e = inr (ltb-true (before tab bs) (length bs) e)
     go false e = inl (fields-one bs (omega (arith, ltb-false (before tab bs) (length bs) e, before-most tab bs)))
 
-fields-some : (bs : List ℕ) → 0 < length (fields bs)
+pub fields-some : (bs : List ℕ) → 0 < length (fields bs)
 fields-some bs = ⊎-elim (λ e. rw e (omega arith)) (λ h. rw (fields-next bs h) (omega arith)) (some-field bs)
 
 -- more fields than a record has

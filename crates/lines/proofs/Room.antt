@@ -14,7 +14,7 @@ use Rattle.batch.specs.Batch.{recordWords, recordsMost}
 use Rattle.lines.specs.Lines.{lines, lineRecord, lineNumber, faultFrom, fault, lineRecords, batchOf, scoresNumber, scored}
 use Rattle.lines.proofs.Answers.{records-wide, records-many, batch-length}
 
-numberless-few : (i : ℕ) (l : List ℕ) → lineNumber i l ≡ 0 → i < recordsMost
+pub numberless-few : (i : ℕ) (l : List ℕ) → lineNumber i l ≡ 0 → i < recordsMost
 unfolding lineNumber
 numberless-few i l e =
     let rest = passed (eqb (length (lineRecord l)) 0) 11 ((leb recordsMost i, 13) ∷ []) e .1 in

@@ -1,2 +1,3 @@
+pub mod Claims
 pub mod Lines
 pub mod code

@@ -1,3 +1,4 @@
+pub mod Claims
 pub mod Fresh
 pub mod Outcomes
 pub mod Passing

@@ -44,7 +44,7 @@ passing-start limit c b e =
     let z : limit - 0 ≡ limit = omega arith in
     record { within = zero-le; long = refl; ends = rw z e; rest = rw z }
 
-ends-some : (n : ℕ) (c b : List ℕ) → endsWithin n c b ≡ true → 0 < n
+pub ends-some : (n : ℕ) (c b : List ℕ) → endsWithin n c b ≡ true → 0 < n
 unfolding endsWithin refusedWithin finishesWithin
 ends-some zero c b e = contradiction false e refl
 ends-some (suc n) c b e = omega arith
@@ -54,22 +54,22 @@ pub passing-some : {limit : ℕ} {first b c : List ℕ} {steps : ℕ} → Passin
 passing-some {limit} {first} {b} {c} {steps} p = omega (arith, ends-some (limit - steps) c b (p .ends))
 
 -- one step of the definition
-refused-here : (n made : ℕ) (c b : List ℕ) → 0 < n → step c b .number ≢ 0 → Refused (step c b .number) ≡ passFrom n made c b
+pub refused-here : (n made : ℕ) (c b : List ℕ) → 0 < n → step c b .number ≢ 0 → Refused (step c b .number) ≡ passFrom n made c b
 unfolding passFrom
 refused-here zero made c b h k = absurd (omega arith)
 refused-here (suc n) made c b h k = rw (ne-eqb (step c b .number) 0 k)
 
-finished-here : (n made : ℕ) (c b : List ℕ) → 0 < n → step c b .number ≡ 0 → step c b .finished ≡ true → Finished (made + 1) ≡ passFrom n made c b
+pub finished-here : (n made : ℕ) (c b : List ℕ) → 0 < n → step c b .number ≡ 0 → step c b .finished ≡ true → Finished (made + 1) ≡ passFrom n made c b
 unfolding passFrom
 finished-here zero made c b h k f = absurd (omega arith)
 finished-here (suc n) made c b h k f = rw (eq-eqb (step c b .number) 0 k, f, add-one)
 
-goes-on :
+pub goes-on :
     (n m made : ℕ) (c b : List ℕ) → n ≡ suc m → step c b .number ≡ 0 → step c b .finished ≡ false → passFrom n made c b ≡ passFrom m (made + 1) (step c b .card) b
 unfolding passFrom
 goes-on n m made c b e k f = rw (e, eq-eqb (step c b .number) 0 k, f, add-one)
 
-ends-later : (n m : ℕ) (c b : List ℕ) → n ≡ suc m → step c b .number ≡ 0 → step c b .finished ≡ false → endsWithin n c b ≡ true → endsWithin m (step c b .card) b ≡ true
+pub ends-later : (n m : ℕ) (c b : List ℕ) → n ≡ suc m → step c b .number ≡ 0 → step c b .finished ≡ false → endsWithin n c b ≡ true → endsWithin m (step c b .card) b ≡ true
 unfolding endsWithin refusedWithin finishesWithin
 ends-later n m c b e k f q = rw (e, eq-eqb (step c b .number) 0 k, f) at q
 
