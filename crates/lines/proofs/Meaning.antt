@@ -47,9 +47,9 @@ orderMeansNothing us vs r s k e =
     let up = rises-from s k e in
     rises-ext (applied us s) (applied vs s) (rises-applied us s up) (rises-applied vs s up)
     (λ x.
-      has-applied x us s
-      ∙ ap₂ (λ a b. a || (has x s && not b)) (any-alike us vs r (adds x)) (any-alike us vs r (removes x))
-      ∙ sym (has-applied x vs s))
+    has-applied x us s
+    ∙ ap₂ (λ a b. a || (has x s && not b)) (any-alike us vs r (adds x)) (any-alike us vs r (removes x))
+    ∙ sym (has-applied x vs s))
 
 -- the update of a record's words
 unfoldable updateFrom : List ℕ → Update
@@ -91,9 +91,8 @@ batchSorted bytes e =
     let rs = lineRecords bytes in
     let w = records-wide bytes e in
     let all = updates-laid rs w in
-    let in-order = updates-laid (sorted (keyAt 1) rs) (sorted-wide (keyAt 1) 4 rs w) in
-    (
+    let in-order = updates-laid (sorted (keyAt 1) rs) (sorted-wide (keyAt 1) 4 rs w) in (
       λ f. ap (λ us. length (those f us)) in-order ∙ those-map f (sorted (keyAt 1) rs) ∙ sortRearranges (keyAt 1) rs (λ r. f (updateFrom r))
-      ∙ sym (those-map f rs) ∙ ap (λ us. length (those f us)) (sym all),
+          ∙ sym (those-map f rs) ∙ ap (λ us. length (those f us)) (sym all),
       ap (falls 0) in-order ∙ never-falls (sorted (keyAt 1) rs) 0 (sortOrders (keyAt 1) rs),
     )

@@ -183,9 +183,11 @@ settle-line i b bs m h next = go (ltb (before lineFeed (b ∷ bs)) 35) refl
     by-number (suc n) e =
         fault-here i (first (b ∷ bs)) (lines (behind (b ∷ bs))) e
         ∙ sym (fault-here i (first (b ∷ bs)) (lines (take (suc m - suc (before lineFeed (b ∷ bs))) (behind (b ∷ bs)))) e)
+
     still-long : 35 ≤ before lineFeed (b ∷ bs) → (t : Bool) → ltb (before lineFeed (b ∷ bs)) (suc m) ≡ t → 35 ≤ before lineFeed (take (suc m) (b ∷ bs))
     still-long l true t = omega (arith, l, before-take lineFeed (b ∷ bs) (suc m) (ltb-true (before lineFeed (b ∷ bs)) (suc m) t))
     still-long l false t = omega (arith, h, before-cut lineFeed (b ∷ bs) (suc m) (ltb-false (before lineFeed (b ∷ bs)) (suc m) t))
+
     go : (t : Bool) → ltb (before lineFeed (b ∷ bs)) 35 ≡ t → faultFrom i (lines (b ∷ bs)) ≡ faultFrom i (lines (take (suc m) (b ∷ bs)))
     go true t =
         let short : before lineFeed (b ∷ bs) < suc m = omega (arith, h, ltb-true (before lineFeed (b ∷ bs)) 35 t) in
@@ -209,8 +211,8 @@ settled zero i bs m e h = settle-bytes i bs m (omega (arith, h)) (λ z. absurd (
 settled (suc k) i bs m e h =
     settle-bytes i bs m (omega (arith, h))
     (λ z.
-      settled k (suc i) (behind bs) (m - suc (before lineFeed bs)) (omega (arith, e))
-      (omega (arith, h, numberless-short i (first bs) z, first-length bs)))
+    settled k (suc i) (behind bs) (m - suc (before lineFeed bs)) (omega (arith, e))
+    (omega (arith, h, numberless-short i (first bs) z, first-length bs)))
 
 -- a file without a fault is within these bytes: its first line is short, and so is what is behind it
 faultless-next :
@@ -230,13 +232,13 @@ faultless-short zero i bs e f =
 faultless-short (suc k) i bs e f =
     ⊎-elim (λ z. omega (arith, z))
     (λ r.
-      omega (
-        arith,
-        faultless-short k (suc i) (behind bs) (omega (arith, e)) (r .1),
-        length-drop (suc (before lineFeed bs)) bs,
-        numberless-short i (first bs) (r .0),
-        first-length bs,
-      ))
+    omega (
+      arith,
+      faultless-short k (suc i) (behind bs) (omega (arith, e)) (r .1),
+      length-drop (suc (before lineFeed bs)) bs,
+      numberless-short i (first bs) (r .0),
+      first-length bs,
+    ))
     (faultless-next i bs f)
 
 -- so the beginning has the same fault, and without one it is the whole

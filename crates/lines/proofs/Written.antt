@@ -45,15 +45,14 @@ letter-fields c rest n =
 
 pub linesRead : LinesRead
 unfolding LinesRead additionLine removalLine NumbersRead
-linesRead =
-    (
-      λ t p ht hp.
+linesRead = (
+  λ t p ht hp.
       let a = numbersRead t ht in
       let b = numbersRead p hp in
       letter-fields letterA (decimal t ++ tab ∷ decimal p) (λ z. omega (arith, z))
       ∙ ap (λ fs. recordOf ((letterA ∷ []) ∷ fs)) (fields-figures (decimal t) (decimal p) (a .0))
       ∙ addition-fields (decimal t) (decimal p) ∙ rw (a .0, b .0, a .1, b .1),
-      λ t a z ht ha hz.
+  λ t a z ht ha hz.
       let k = numbersRead t ht in
       let m = numbersRead a ha in
       let n = numbersRead z hz in
@@ -61,4 +60,4 @@ linesRead =
       ∙ ap (λ l. recordOf ((letterR ∷ []) ∷ fields l)) (append-assoc (decimal t) (tab ∷ decimal a) (tab ∷ decimal z))
       ∙ ap (λ fs. recordOf ((letterR ∷ []) ∷ fs)) (fields-figures (decimal t) (decimal a ++ tab ∷ decimal z) (k .0) ∙ ap (λ fs. decimal t ∷ fs) (fields-figures (decimal a) (decimal z) (m .0)))
       ∙ removal-fields (decimal t) (decimal a) (decimal z) ∙ rw (k .0, m .0, n .0, k .1, m .1, n .1),
-    )
+)

@@ -42,6 +42,7 @@ ends-enough (suc n) k made c b e = go (ends-enough n k (made + 1) (step c b .car
   where
     more : suc n + k ≡ suc (n + k)
     more = omega arith
+
     go :
         (endsWithin n (step c b .card) b ≡ true → passFrom (n + k) (made + 1) (step c b .card) b ≡ passFrom n (made + 1) (step c b .card) b) →
         (t : Bool) → eqb (step c b .number) 0 ≡ t → (u : Bool) → step c b .finished ≡ u → passFrom (suc n + k) made c b ≡ passFrom (suc n) made c b

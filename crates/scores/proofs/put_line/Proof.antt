@@ -32,8 +32,7 @@ add-result c = record { fits = omega (arith, c .figure-count .ensures, decimal-f
 returns : tie.Need-returns
 returns c =
     let s = c .before .before .before in
-    let count = c .figure-count .ensures in
-    (
+    let count = c .figure-count .ensures in (
       (
         omega (arith, count, line-length (s .args .letter) (s .args .n)),
         line-put (s .args .line .now) (s .args .letter) (s .args .n) _ (c .before .before .put-number-arg .given .0 .1) (omega arith) (c .before .put-number .ensures) (ap (λ k. 2 + k) count),
