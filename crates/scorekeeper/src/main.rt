@@ -3,10 +3,8 @@ ghost use Prim.Native.Nat.{_≤_};
 ghost use lib.ListN.{length};
 use libc::STDIN_FILENO;
 use libc::STDOUT_FILENO;
+use lines::SETTLING_BYTES;
 use scores::LINE_BYTES;
-
-// The bytes that settle the outcome of any file: 4,097 lines of at most 35 bytes.
-const SETTLING_BYTES: usize = 143_395;
 
 // How many bytes came, and whether every read was made.
 struct Input {
