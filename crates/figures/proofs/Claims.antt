@@ -3,7 +3,7 @@ use Prim.Native.Nat.{ℕ, zero, suc, _+_, _*_, _-_, _/_, _%_, _≤_, _<_}
 use native.Mathlib.Omega.{arith}
 use mathlib.Core.Path.{_≡_, refl, sym, ap, _∙_}
 use mathlib.Core.Logic.{inr}
-use mathlib.Core.Bool.{Bool, true, false, cond, _&&_, _||_, not}
+use mathlib.Core.Bool.{Bool, true, false, _&&_, _||_, not}
 use mathlib.Core.List.{List, [], _∷_, _++_, append-assoc, append-nil}
 use borrow.Author.Tests.{lt-ltb, le-leb, leb-true, ltb-true, ltb-false, eqb-false, ne-eqb}
 use lib.ListN.{length, getD}
@@ -12,8 +12,7 @@ use Rattle.pair.specs.Rank.{wordLimit}
 use Rattle.pair.proofs.Tests.{and-left, and-right, and-both, or-intro}
 use Rattle.figures.specs.Figures.{figure, lastFigures, decimal, isFigure, allFigures, worth, isNumber}
 use Rattle.figures.specs.Claims.{NumbersRead, NumbersOnly}
-use Rattle.figures.specs.code.Reading.{leading}
-use Rattle.figures.proofs.Figures.{decimal-last, decimal-leads, figures-some, leading-none, leading-some}
+use Rattle.figures.proofs.Figures.{decimal-last, decimal-leads, figures-some, leading-some}
 
 figure-read : (d : ℕ) → d < 10 → isFigure (figure d) ≡ true
 unfolding isFigure

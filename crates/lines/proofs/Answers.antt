@@ -1,14 +1,14 @@
 -- What a file answers, refused or read.
-use Prim.Native.Nat.{ℕ, zero, suc, _+_, _*_, _/_, _%_, _≤_, _<_, zero-le}
+use Prim.Native.Nat.{ℕ, suc, _+_, _*_, _/_, _%_, _≤_, _<_}
 use native.Mathlib.Omega.{arith}
 use mathlib.Core.Path.{_≡_, refl, sym, ap, _∙_}
 use mathlib.Core.Logic.{_≢_}
-use mathlib.Core.Bool.{Bool, true, false, cond, not, _&&_}
-use mathlib.Core.List.{List, [], _∷_, _++_, map, append-nil}
-use borrow.Author.Tests.{lt-ltb, le-ltb, le-leb, lt-leb, leb-true, leb-false, eq-eqb, ne-eqb, eqb-true, eqb-false}
+use mathlib.Core.Bool.{Bool, true, false, cond, _&&_}
+use mathlib.Core.List.{List, [], _∷_, map, append-nil}
+use borrow.Author.Tests.{lt-ltb, le-ltb, leb-true, leb-false, eq-eqb, ne-eqb, eqb-true, eqb-false}
 use lib.ListN.{length, take, drop, length-map}
 use lib.Seq.{sets, sets-eq, take-at}
-use lib.Dec.{ltb, leb, eqb}
+use lib.Dec.{leb, eqb}
 use Rattle.pair.specs.Tests.{same, firstOf}
 use Rattle.pair.proofs.FirstOf.{passed}
 use Rattle.pair.proofs.Tests.{contradiction}
@@ -18,7 +18,7 @@ use Rattle.sort.specs.Sort.{recordsFrom, records, laid, keyAt, sorted, sortedWo
 use Rattle.sort.proofs.Answers.{refused, done}
 use Rattle.sort.proofs.Records.{Wide, laid-length, records-laid, sorted-wide, sorted-length}
 use Rattle.lines.specs.declared.Gathered.{Gathered}
-use Rattle.lines.specs.Lines.{letterA, letterR, lines, fields, recordOf, lineRecord, lineNumber, faultFrom, fault, lineRecords, batchOf, scoresNumber, Scored, scored}
+use Rattle.lines.specs.Lines.{letterA, letterR, lines, fields, recordOf, lineRecord, lineNumber, faultFrom, fault, lineRecords, batchOf, scoresNumber, scored}
 use Rattle.lines.specs.code.Gathering.{Gathers, Answers}
 
 -- a record has four words

@@ -4,20 +4,17 @@ use native.Mathlib.Omega.{arith}
 use native.Mathlib.Nat.{zero-add}
 use mathlib.Core.Path.{_≡_, refl, sym, ap, _∙_}
 use mathlib.Core.Logic.{_≢_}
-use mathlib.Core.Bool.{Bool, true, false, cond}
 use mathlib.Core.List.{List, [], _∷_, _++_, map, append-assoc, append-nil}
-use borrow.Author.Tests.{le-leb, lt-leb, eq-eqb, ne-eqb}
+use borrow.Author.Tests.{lt-leb, eq-eqb, ne-eqb}
 use lib.ListN.{length, take, drop, getD, length-append, length-map, drop-of-length-le}
 use lib.Seq.{sets, length-sets, drop-cons, drop-drop}
-use lib.Dec.{leb, eqb}
 use Rattle.pair.specs.Tests.{firstOf}
 use Rattle.pair.proofs.Lists.{sets-behind}
 use Rattle.batch.specs.Batch.{recordsMost}
 use Rattle.sort.specs.Sort.{laid}
 use Rattle.sort.proofs.Records.{Wide, wide-one, laid-length, laid-one, laid-append}
 use Rattle.lines.specs.declared.line.Record.{Record}
-use Rattle.lines.specs.declared.Gathered.{Gathered}
-use Rattle.lines.specs.Lines.{lineFeed, lines, lineRecord, lineNumber, Fault, faultFrom, fault, lineRecords}
+use Rattle.lines.specs.Lines.{lineFeed, lines, lineRecord, lineNumber, faultFrom, fault, lineRecords}
 use Rattle.lines.specs.code.Gathering.{before, wordsOf, Gathers}
 use Rattle.lines.proofs.Splitting.{lines-next}
 

@@ -1,18 +1,18 @@
 -- A line's record.
-use Prim.Native.Nat.{ℕ, zero, suc, _+_, _-_, _≤_, _<_, zero-le}
+use Prim.Native.Nat.{ℕ, suc, _+_, _-_, _≤_, _<_}
 use native.Mathlib.Omega.{arith}
 use mathlib.Core.Path.{_≡_, refl, sym, ap, _∙_}
 use mathlib.Core.Logic.{_≢_, _⊎_, inl, inr, ⊎-elim}
 use mathlib.Core.Bool.{Bool, true, false, cond, _&&_, _||_, and-false}
-use mathlib.Core.List.{List, [], _∷_, _++_}
-use borrow.Author.Tests.{leb-true, ltb-true, ltb-false, eqb-true, eqb-false, eq-eqb, ne-eqb}
+use mathlib.Core.List.{List, [], _∷_}
+use borrow.Author.Tests.{leb-true, ltb-true, ltb-false, eqb-true, eqb-false, ne-eqb}
 use lib.ListN.{length, take, drop, getD, length-drop}
 use lib.Seq.{length-take-le, take-all, drop-drop}
 use lib.Dec.{ltb, leb, eqb}
 use Rattle.pair.specs.Rank.{wordLimit}
 use Rattle.pair.specs.Tests.{same}
 use Rattle.pair.proofs.Tests.{and-left, and-right, or-cases, or-left, or-right}
-use Rattle.figures.specs.Figures.{figure, isFigure, allFigures, worth, isNumber}
+use Rattle.figures.specs.Figures.{isFigure, allFigures, worth, isNumber}
 use Rattle.figures.specs.code.Reading.{numberIn}
 use Rattle.figures.proofs.Reading.{number-figures, number-small, read-number, read-no-number}
 use Rattle.lines.specs.Lines.{tab, letterA, letterR, fields, recordOf, lineRecord}

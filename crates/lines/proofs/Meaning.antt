@@ -1,14 +1,13 @@
 -- A batch in another order, and a file's batch in its own.
-use Prim.Native.Nat.{ℕ, zero, suc, _≤_, _<_}
+use Prim.Native.Nat.{ℕ, suc}
 use native.Mathlib.Omega.{arith}
 use mathlib.Core.Path.{_≡_, refl, sym, ap, ap₂, _∙_}
 use mathlib.Core.Bool.{Bool, true, false, cond, not, _&&_, _||_}
 use mathlib.Core.List.{List, [], _∷_, map}
 use borrow.Author.Tests.{lt-ltb, le-ltb, leb-true}
 use lib.ListN.{length, getD}
-use lib.Dec.{ltb, leb, eqb}
+use lib.Dec.{ltb, leb}
 use Rattle.pair.specs.Rank.{rank}
-use Rattle.pair.specs.Rising.{risingFrom}
 use Rattle.pair.proofs.Rising.{rises-from}
 use Rattle.pair.proofs.Sets.{has, rises-ext}
 use Rattle.pair.proofs.Tests.{and-left, and-right}
@@ -18,7 +17,7 @@ use Rattle.sort.specs.Sort.{laid, keyAt, sorted}
 use Rattle.sort.specs.Claims.{those, Rearranged, inOrderFrom, SortRearranges, SortOrders}
 use Rattle.sort.proofs.Claims.{sortRearranges, sortOrders}
 use Rattle.sort.proofs.Records.{Wide, sorted-wide}
-use Rattle.lines.specs.Lines.{fault, lineRecords, batchOf}
+use Rattle.lines.specs.Lines.{lineRecords, batchOf}
 use Rattle.lines.specs.Claims.{RoomEnough, BatchSorted, OrderMeansNothing}
 use Rattle.lines.proofs.Answers.{records-wide}
 use Rattle.lines.proofs.Room.{room-number}

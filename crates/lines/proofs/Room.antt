@@ -1,17 +1,17 @@
 -- A batch of a file has at most as many records as a batch may have.
 use Prim.Native.Nat.{ℕ, suc, _+_, _*_, _≤_, _<_}
 use native.Mathlib.Omega.{arith}
-use mathlib.Core.Path.{_≡_, refl, sym, ap, _∙_}
+use mathlib.Core.Path.{_≡_, refl, ap, _∙_}
 use mathlib.Core.Bool.{Bool, true, false, cond}
 use mathlib.Core.List.{List, [], _∷_}
-use borrow.Author.Tests.{le-ltb, leb-false, eq-eqb, ne-eqb, eqb-true, eqb-false}
+use borrow.Author.Tests.{le-ltb, leb-false, eqb-true, eqb-false}
 use lib.ListN.{length, take, drop}
-use lib.Seq.{sets, sets-eq, take-at, length-sets}
+use lib.Seq.{sets-eq, take-at, length-sets}
 use lib.Dec.{leb, eqb}
 use Rattle.pair.specs.Tests.{firstOf}
 use Rattle.pair.proofs.FirstOf.{passed}
 use Rattle.batch.specs.Batch.{recordWords, recordsMost}
-use Rattle.lines.specs.Lines.{lines, lineRecord, lineNumber, faultFrom, fault, lineRecords, batchOf, scoresNumber, scored}
+use Rattle.lines.specs.Lines.{lines, lineRecord, lineNumber, faultFrom, fault, batchOf, scoresNumber, scored}
 use Rattle.lines.proofs.Answers.{records-wide, records-many, batch-length}
 
 pub numberless-few : (i : ℕ) (l : List ℕ) → lineNumber i l ≡ 0 → i < recordsMost

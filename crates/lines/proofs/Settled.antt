@@ -4,22 +4,20 @@ use native.Mathlib.Omega.{arith}
 use mathlib.Core.Path.{_≡_, refl, sym, ap, _∙_}
 use mathlib.Core.Logic.{_≢_, _⊎_, inl, inr, ⊎-elim}
 use mathlib.Core.Bool.{Bool, true, false, cond, _&&_, and-false}
-use mathlib.Core.List.{List, [], _∷_, _++_}
-use borrow.Author.Tests.{ltb-true, ltb-false, eq-eqb, ne-eqb, eqb-true, eqb-false}
-use lib.ListN.{length, take, drop, length-append, length-take, length-drop}
+use mathlib.Core.List.{List, [], _∷_}
+use borrow.Author.Tests.{ltb-true, ltb-false, ne-eqb, eqb-true, eqb-false}
+use lib.ListN.{length, take, drop, length-drop}
 use lib.Seq.{take-all, take-nil, take-take, length-take-le}
 use lib.Dec.{ltb, eqb}
-use Rattle.pair.specs.Rank.{wordLimit}
 use Rattle.pair.specs.Tests.{same, firstOf}
 use Rattle.pair.proofs.Lists.{drop-take}
 use Rattle.pair.proofs.Tests.{and-left, and-right, contradiction}
-use Rattle.figures.specs.Figures.{decimal, worth, isNumber}
+use Rattle.figures.specs.Figures.{worth, isNumber}
 use Rattle.figures.specs.Claims.{NumbersOnly}
 use Rattle.figures.proofs.Figures.{decimal-few}
 use Rattle.figures.proofs.Reading.{number-small}
 use Rattle.figures.proofs.Claims.{numbersOnly}
-use Rattle.batch.specs.Batch.{recordsMost}
-use Rattle.lines.specs.Lines.{tab, lineFeed, letterA, letterR, longer, lines, fields, recordOf, lineRecord, lineNumber, Fault, faultFrom, fault, scoresNumber, Scored, scored}
+use Rattle.lines.specs.Lines.{tab, lineFeed, letterA, letterR, longer, lines, fields, recordOf, lineRecord, lineNumber, faultFrom, fault, scoresNumber, scored}
 use Rattle.lines.specs.Claims.{LinesShort, settlingBytes, FileSettled}
 use Rattle.lines.specs.code.Gathering.{before}
 use Rattle.lines.proofs.Lines.{fields-some}

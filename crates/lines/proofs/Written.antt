@@ -1,14 +1,13 @@
 -- Lines written out are read as their records.
-use Prim.Native.Nat.{ℕ, suc, _+_, _-_, _≤_, _<_}
+use Prim.Native.Nat.{ℕ, suc, _+_, _-_, _<_}
 use native.Mathlib.Omega.{arith}
-use mathlib.Core.Path.{_≡_, refl, sym, ap, _∙_}
+use mathlib.Core.Path.{_≡_, refl, ap, _∙_}
 use mathlib.Core.Bool.{true, _&&_}
 use mathlib.Core.List.{List, [], _∷_, _++_, append-assoc}
 use borrow.Author.Tests.{leb-true}
 use lib.ListN.{length, take, drop, length-append}
 use lib.Seq.{take-all, take-append-seam, drop-append-add}
 use lib.Dec.{leb}
-use Rattle.pair.specs.Rank.{wordLimit}
 use Rattle.pair.proofs.Tests.{and-left, and-right}
 use Rattle.figures.specs.Figures.{decimal, isFigure, allFigures, isNumber}
 use Rattle.figures.specs.Claims.{NumbersRead}

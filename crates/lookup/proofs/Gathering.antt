@@ -1,11 +1,11 @@
 -- The wanted positions ahead of a walk moved to answer words.
-use Prim.Native.Nat.{ℕ, _+_, _≤_, _<_, zero-le}
+use Prim.Native.Nat.{ℕ, _+_, _≤_}
 use native.Mathlib.Omega.{arith}
 use mathlib.Core.Path.{_≡_, refl, sym, ap, _∙_}
 use mathlib.Core.List.{List, [], _++_, append-assoc, append-nil}
-use lib.ListN.{length, take, drop, getD, set, length-append, length-drop}
-use lib.Seq.{sets, getD-drop, length-sets}
-use Rattle.pair.proofs.Lists.{length-part, sets-behind, sets-next}
+use lib.ListN.{length, take, drop, length-append}
+use lib.Seq.{sets, length-sets}
+use Rattle.pair.proofs.Lists.{length-part, sets-behind}
 use Rattle.found.specs.declared.walk.Walk.{Walk}
 use Rattle.found.specs.declared.walk.WalkRun.{WalkRun}
 use Rattle.found.specs.code.Walk.{ahead, ReadyWalk, Next}

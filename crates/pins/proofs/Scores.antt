@@ -1,7 +1,7 @@
 -- What is claimed of the scorekeepers' file and of the sort, written out, and files that the checker computes.
-use Prim.Native.Nat.{ℕ, _+_, _*_, _≤_, _<_}
+use Prim.Native.Nat.{ℕ, _+_, _≤_, _<_}
 use mathlib.Core.Path.{_≡_, refl}
-use mathlib.Core.Bool.{Bool, true, false, cond, not, _&&_, _||_}
+use mathlib.Core.Bool.{Bool, true, false}
 use mathlib.Core.List.{List, [], _∷_, _++_}
 use lib.ListN.{length, take}
 use lib.Dec.{eqb}
@@ -20,12 +20,11 @@ use Rattle.card.specs.Sound.{blocksSound, firstReaches, boundaryAgrees, segment
 use Rattle.batch.specs.Batch.{Update, updates, anyUpdate, adds, removes, withdrawn, withAdded, applied, illFormed, falls, batchNumber}
 use Rattle.update.specs.Step.{remains, spent, nextBoundary, freed, grown, configured, dueBlock, dueEntry, configuration, nextWrite, theWrite, crowded, stepNumber, taken, refused, step}
 use Rattle.update.specs.Pass.{blocksFrom, blocks, stepLimit}
-use Rattle.lines.specs.Lines.{longer, lines, fields, recordOf, lineRecord, lineNumber, faultFrom, fault, lineRecords, batchOf, scoresNumber, scored}
+use Rattle.lines.specs.Lines.{longer, lines, fields, recordOf, lineRecord, lineNumber, faultFrom, fault, lineRecords, batchOf, scored}
 use Rattle.lines.specs.Claims.{additionLine, removalLine, LinesRead, LinesShort, FileSettled, RoomEnough, BatchSorted, OrderMeansNothing}
 use Rattle.lines.proofs.Meaning.{roomEnough, batchSorted, orderMeansNothing}
 use Rattle.lines.proofs.Settled.{linesShort, fileSettled}
 use Rattle.lines.proofs.Written.{linesRead}
-use Rattle.scores.specs.declared.Outcome.{Outcome}
 use Rattle.scores.specs.declared.Outcome.the-variants.{Finished, Refused}
 use Rattle.scores.specs.Outcome.{freshCard, passFrom, stepsMost, pass, outcome, printedLine, printed}
 use Rattle.scores.specs.Claims.{OutcomeSettled, PassEnds}

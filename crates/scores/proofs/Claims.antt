@@ -2,19 +2,15 @@
 use Prim.Native.Nat.{ℕ, zero, suc, _+_}
 use native.Mathlib.Omega.{arith}
 use mathlib.Core.Path.{_≡_, refl, sym, ap, _∙_}
-use mathlib.Core.Bool.{Bool, true, false, cond, not}
+use mathlib.Core.Bool.{Bool, true, false}
 use mathlib.Core.List.{List}
 use borrow.Author.Tests.{eqb-true, eqb-false, ne-eqb}
 use lib.ListN.{take}
 use lib.Dec.{eqb}
-use Rattle.pair.specs.Rank.{Words}
-use Rattle.pair.proofs.Tests.{contradiction}
-use Rattle.card.specs.Sound.{judged}
 use Rattle.update.specs.Step.{step}
 use Rattle.lines.specs.Lines.{fault}
 use Rattle.lines.specs.Claims.{settlingBytes}
 use Rattle.lines.proofs.Settled.{fault-settled, faultless-whole}
-use Rattle.scores.specs.declared.Outcome.{Outcome}
 use Rattle.scores.specs.declared.Outcome.the-variants.{Refused}
 use Rattle.scores.specs.Outcome.{passFrom, stepsMost, pass, outcome}
 use Rattle.scores.specs.Claims.{OutcomeSettled, PassEnds}

@@ -1,17 +1,17 @@
 -- A fresh card is sound, and a word holds the steps of a pass on it.
-use Prim.Native.Nat.{ℕ, zero, suc, _+_, _*_, _-_, _/_, _≤_, _<_, zero-le}
+use Prim.Native.Nat.{ℕ, suc, _+_, _*_, _-_, _≤_, _<_, zero-le}
 use native.Mathlib.Omega.{arith}
-use mathlib.Core.Path.{_≡_, refl, sym, ap, _∙_}
+use mathlib.Core.Path.{_≡_, refl, ap}
 use mathlib.Core.Bool.{Bool, true, false, cond, not}
 use mathlib.Core.List.{List, [], _∷_}
-use lib.ListN.{length, take, replicate}
+use lib.ListN.{length, replicate}
 use lib.Dec.{ltb, leb, eqb}
 use Rattle.pair.specs.Rank.{wordLimit, rank, term}
 use Rattle.pair.specs.Tests.{firstOf}
 use Rattle.pair.specs.Rising.{keep, above, insert}
 use Rattle.pair.proofs.Keep.{length-keep}
 use Rattle.block.specs.Block.{cost}
-use Rattle.card.specs.Layout.{cardLength, widthOf, blockSize, formatNumber, formatted, boundary, live}
+use Rattle.card.specs.Layout.{cardLength, widthOf, blockSize, formatNumber, boundary, live}
 use Rattle.card.specs.Sound.{judged}
 use Rattle.card.proofs.Formatted.{formatted-sound, formatted-live}
 use Rattle.batch.specs.Batch.{Update, updates, withdrawn, withAdded, applied, recordWords, recordsMost}

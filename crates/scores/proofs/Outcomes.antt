@@ -1,13 +1,11 @@
 -- The outcome by what reading a file answers, with room for the largest batch.
 use Prim.Native.Nat.{ℕ, _*_, _≤_, _<_}
 use native.Mathlib.Omega.{arith}
-use mathlib.Core.Path.{_≡_, refl, sym, ap, _∙_}
+use mathlib.Core.Path.{_≡_, sym, ap, _∙_}
 use mathlib.Core.Logic.{_≢_}
-use mathlib.Core.Bool.{Bool, true, false, cond}
 use mathlib.Core.List.{List}
 use borrow.Author.Tests.{eq-eqb, ne-eqb}
 use lib.ListN.{length, take}
-use lib.Dec.{eqb}
 use Rattle.pair.specs.Rank.{wordLimit}
 use Rattle.card.specs.Sound.{judged}
 use Rattle.batch.specs.Batch.{recordWords, recordsMost}
@@ -15,8 +13,7 @@ use Rattle.lines.specs.declared.Scores.{Scores}
 use Rattle.lines.specs.Lines.{fault, batchOf, scored}
 use Rattle.lines.specs.code.Gathering.{Answers}
 use Rattle.lines.proofs.Room.{batch-few, room-number, read-words, read-many}
-use Rattle.scores.specs.declared.Outcome.{Outcome}
-use Rattle.scores.specs.declared.Outcome.the-variants.{Finished, Refused}
+use Rattle.scores.specs.declared.Outcome.the-variants.{Refused}
 use Rattle.scores.specs.Outcome.{freshCard, stepsMost, pass, outcome}
 use Rattle.scores.proofs.Fresh.{few-steps, fresh-sound}
 

@@ -2,20 +2,18 @@
 use Prim.Native.Nat.{ℕ, zero, suc, _+_, _-_, _≤_, _<_, zero-le}
 use native.Mathlib.Omega.{arith}
 use native.Mathlib.Numerals.{add-one}
-use mathlib.Core.Path.{_≡_, refl, sym, ap, _∙_}
+use mathlib.Core.Path.{_≡_, refl, sym, _∙_}
 use mathlib.Core.Logic.{_≢_}
 use mathlib.Core.Bool.{Bool, true, false, _||_}
 use mathlib.Core.List.{List}
 use borrow.Author.Tests.{eq-eqb, ne-eqb}
 use lib.ListN.{length}
-use lib.Dec.{eqb}
 use Rattle.pair.proofs.Tests.{contradiction}
 use Rattle.pair.specs.Rank.{Words}
 use Rattle.card.specs.Sound.{judged}
 use Rattle.update.proofs.Ends.{pass-finishes}
 use Rattle.update.specs.Step.{step}
 use Rattle.update.specs.Pass.{finishesWithin, refusedWithin}
-use Rattle.scores.specs.declared.Outcome.{Outcome}
 use Rattle.scores.specs.declared.Outcome.the-variants.{Finished, Refused}
 use Rattle.scores.specs.Outcome.{passFrom, stepsMost}
 

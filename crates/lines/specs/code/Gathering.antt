@@ -1,12 +1,12 @@
 -- What the code's parts find in the bytes.
-use Prim.Native.Nat.{ℕ, suc, _*_, _≤_}
+use Prim.Native.Nat.{ℕ, suc, _≤_}
 use mathlib.Core.Path.{_≡_}
 use mathlib.Core.Bool.{cond}
 use mathlib.Core.List.{List, [], _∷_}
 use lib.ListN.{length}
 use lib.Seq.{sets}
 use lib.Dec.{eqb}
-use Rattle.batch.specs.Batch.{recordWords, recordsMost}
+use Rattle.batch.specs.Batch.{recordsMost}
 use Rattle.sort.specs.Sort.{laid}
 use Rattle.lines.specs.declared.line.Record.{Record}
 use Rattle.lines.specs.declared.Gathered.{Gathered}

@@ -1,7 +1,7 @@
 -- `scorekeeper::read_input` meets its contract. The invariant of its loop: what came lies in the buffer, which keeps its length.
 use Prim.Native.Nat.{_-_, _≤_}
 use native.Mathlib.Omega.{arith}
-use mathlib.Core.Path.{_≡_, refl, _∙_}
+use mathlib.Core.Path.{_≡_, refl}
 use lib.ListN.{length}
 use borrow.Author.Needs.{needs}
 use Rattle.scorekeeper.proofs.read_input.Statement.{statement}
