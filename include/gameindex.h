@@ -2,12 +2,12 @@
  *
  * A card is words of 32 bits: 8 configuration words, a map of two words for
  * each place, then the places of B words each. Lengths are counts of words, the
- * length of a page's memory or of a file one of bytes. Every call takes any card, whatever its
- * words and its length: what is wrong with it comes back as a number, and a
- * refused call writes nothing. A pointer stands for as many words or bytes as the
- * length beside it says, for one word where there is none, and is never NULL, not
- * even where that length is 0. Memory that a call may write is lent to it only
- * once.
+ * length of a page's memory or of a file one of bytes. Every call takes any card,
+ * whatever its words and its length, and any file: what is wrong with it comes
+ * back as a number, and a refused call writes nothing. A pointer stands for as
+ * many words or bytes as the length beside it says, for one word where there is
+ * none, and is never NULL, not even where that length is 0. Memory that a call may
+ * write is lent to it only once.
  */
 #ifndef GAMEINDEX_H
 #define GAMEINDEX_H

@@ -123,5 +123,7 @@ numbersOnly bs e =
     let first = eqb (length bs) 1 || not (eqb (getD bs 0 0) (figure 0)) in
     let small = ltb (worth 0 bs) wordLimit in
     let three = and-left (some && first && allFigures bs) small e in
-    let two = and-left (some && first) (allFigures bs) three in
-    only bs (ltb-true 0 (length bs) (and-left some first two)) (and-right some first two) (and-right (some && first) (allFigures bs) three)
+    let two = and-left (some && first) (allFigures bs) three in (
+      only bs (ltb-true 0 (length bs) (and-left some first two)) (and-right some first two) (and-right (some && first) (allFigures bs) three),
+      ltb-true (worth 0 bs) wordLimit (and-right (some && first && allFigures bs) small e),
+    )

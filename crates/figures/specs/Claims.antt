@@ -10,6 +10,6 @@ use Rattle.figures.specs.Figures.{decimal, worth, isNumber}
 unfoldable pub NumbersRead : Type 0
 NumbersRead = (n : ℕ) → n < wordLimit → (isNumber (decimal n) ≡ true) × (worth 0 (decimal n) ≡ n)
 
--- and nothing else is read as a number
+-- and nothing else is read as a number: a word's figures alone
 unfoldable pub NumbersOnly : Type 0
-NumbersOnly = (bs : List ℕ) → isNumber bs ≡ true → bs ≡ decimal (worth 0 bs)
+NumbersOnly = (bs : List ℕ) → isNumber bs ≡ true → (bs ≡ decimal (worth 0 bs)) × (worth 0 bs < wordLimit)

@@ -15,7 +15,6 @@ use Rattle.pair.proofs.Tests.{and-left, and-right, contradiction}
 use Rattle.figures.specs.Figures.{worth, isNumber}
 use Rattle.figures.specs.Claims.{NumbersOnly}
 use Rattle.figures.proofs.Figures.{decimal-few}
-use Rattle.figures.proofs.Reading.{number-small}
 use Rattle.figures.proofs.Claims.{numbersOnly}
 use Rattle.lines.specs.Lines.{tab, lineFeed, letterA, letterR, longer, lines, fields, recordOf, lineRecord, lineNumber, faultFrom, fault, scoresNumber, scored}
 use Rattle.lines.specs.Claims.{LinesShort, settlingBytes, FileSettled}
@@ -28,7 +27,7 @@ use Rattle.lines.proofs.Splitting.{before-most, before-mark, before-pas
 -- a number has at most ten figures
 number-short : (bs : List ℕ) → isNumber bs ≡ true → length bs ≤ 10
 unfolding NumbersOnly
-number-short bs e = omega (arith, ap length (numbersOnly bs e), decimal-few (worth 0 bs) (number-small bs e))
+number-short bs e = let n = numbersOnly bs e in omega (arith, ap length (n .0), decimal-few (worth 0 bs) (n .1))
 
 -- the bytes of fields, each with one that parts it
 unfoldable long : List (List ℕ) → ℕ

@@ -35,7 +35,7 @@ pub numbers-read : (n : ℕ) → n < 4294967296 → (isNumber (decimal n) ≡ tr
 unfolding NumbersRead
 numbers-read = numbersRead
 
-pub numbers-only : (bs : List ℕ) → isNumber bs ≡ true → bs ≡ decimal (worth 0 bs)
+pub numbers-only : (bs : List ℕ) → isNumber bs ≡ true → (bs ≡ decimal (worth 0 bs)) × (worth 0 bs < 4294967296)
 unfolding NumbersOnly
 numbers-only = numbersOnly
 

@@ -23,9 +23,6 @@ pub line-length : (letter n : ℕ) → length (printedLine letter n) ≡ 2 + len
 unfolding printedLine
 line-length letter n = rw length-append (omega arith)
 
-pub line-short : (letter n : ℕ) → n < wordLimit → length (printedLine letter n) ≤ 13
-line-short letter n h = omega (arith, line-length letter n, decimal-few n h)
-
 pub line-put :
     (l : List ℕ) (letter n end : ℕ) {now : List ℕ} → length (set (set l 0 letter) 1 tab) ≡ 13 → n < wordLimit → now ≡ putNumber (set (set l 0 letter) 1 tab) 2 n →
     end ≡ 2 + length (decimal n) → set now end lineFeed ≡ sets l 0 (printedLine letter n)
