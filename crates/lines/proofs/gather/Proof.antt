@@ -1,5 +1,5 @@
 -- `lines::gather` meets its contract. The invariant of its loop, Gathering: the records of count lines stand in the memory.
-use Prim.Native.Nat.{_-_}
+use Prim.Native.Nat.{_+_, _-_}
 use native.Mathlib.Omega.{arith}
 use lib.ListN.{length}
 use Rattle.lines.specs.Lines.{lineFeed}
@@ -62,14 +62,25 @@ put-record-requires c κs =
 add-count : tie.Need-add-count Inv-loop μ-loop
 add-count c = record { fits = omega (arith, c .before .before .before .before .before .before .before .before .before .before .loop .inv .few) }
 
+-- the line's record stands behind the others
+turn :
+    (k : tie.After-slice-known2 Inv-loop μ-loop) →
+    Gathering (k .before .before .before .before .before .before .before .before .before .before .before .before .before .args .bytes .now) (k .before .before .before .before .before .before .before .before .before .before .before .before .before .args .records .now) (k .before .before .put-record .last .0) (k .before .before .before .before .before .before .before .before .before .before .loop .count + 1) (k .before .before .before .before .before .before .before .before .before2 .result + 1)
+turn k =
+    let l = k .before .before .before .before .before .before .before .before .before .before in
+    gathering-turn (k .before .before .before .before .before .before .read-line .result) (l .loop .inv) (k .before .before .before .before .before .before .before .before .before .loop-test .taken) (k .before .before .before .before .before .before .before .before .before2 .ensures) (k .before .before .before .before .before .before .read-line .ensures) (k .before .before .before .before .before .if1 .left) (k .before .before .before .before .if2 .left) (k .before .before .put-record .ensures)
+
 add-at : tie.Need-add-at Inv-loop μ-loop
-add-at c = record { fits = omega (arith, found-inside lineFeed (c .before .before .before .before .before .before .before .before .before .before .before .before .before .before .args .bytes .now) (c .before .before .before .before .before .before .before .before .before .before .before .loop .at) (let h = c .before .before .before .before .before .before .before .before .before .before .loop-test .taken in omega (arith, h)) (c .before .before .before .before .before .before .before .before .before .before2 .ensures), c .if3 .left, c .before .before .before .before .before .before .before .before .before .before .before .before .before .before .good .0) }
+add-at c =
+    let l = c .before .before .before .before .before .before .before .before .before .before .before in
+    let inside = found-inside lineFeed (l .before .before .before .args .bytes .now) (l .loop .at) (let h = c .before .before .before .before .before .before .before .before .before .before .loop-test .taken in omega (arith, h)) (c .before .before .before .before .before .before .before .before .before .before2 .ensures) in
+    record { fits = omega (arith, inside, c .if3 .left, l .before .before .before .good .0) }
 
 loop-less : tie.Need-loop-less Inv-loop μ-loop
 loop-less c = omega (arith, c .before .before .before .before .before .before .before .before .before .before2 .ensures, c .before .before .before .before .before .before .before .before .before .before .loop-test .taken)
 
 loop-again : tie.Need-loop-again Inv-loop μ-loop
-loop-again c = gathering-turn (c .before .before .before .before .before .before .before .read-line .result) (c .before .before .before .before .before .before .before .before .before .before .before .loop .inv) (c .before .before .before .before .before .before .before .before .before .before .loop-test .taken) (c .before .before .before .before .before .before .before .before .before .before2 .ensures) (c .before .before .before .before .before .before .before .read-line .ensures) (c .before .before .before .before .before .before .if1 .left) (c .before .before .before .before .before .if2 .left) (c .before .before .before .put-record .ensures)
+loop-again c = turn (c .before)
 
 same-length-3 : tie.Need-same-length-3 Inv-loop μ-loop
 same-length-3 c = gathering-length (c .before .loop .inv)
@@ -78,10 +89,10 @@ returns-3 : tie.Need-returns-3 Inv-loop μ-loop
 returns-3 c = gathering-end (c .before .loop .inv) (c .loop-test .left)
 
 same-length-4 : tie.Need-same-length-4 Inv-loop μ-loop
-same-length-4 c = gathering-length (gathering-turn (c .before .before .before .before .before .before .before .read-line .result) (c .before .before .before .before .before .before .before .before .before .before .before .loop .inv) (c .before .before .before .before .before .before .before .before .before .before .loop-test .taken) (c .before .before .before .before .before .before .before .before .before .before2 .ensures) (c .before .before .before .before .before .before .before .read-line .ensures) (c .before .before .before .before .before .before .if1 .left) (c .before .before .before .before .before .if2 .left) (c .before .before .before .put-record .ensures))
+same-length-4 c = gathering-length (turn (c .before))
 
 returns-4 : tie.Need-returns-4 Inv-loop μ-loop
-returns-4 c = gathering-end (gathering-turn (c .before .before .before .before .before .before .before .read-line .result) (c .before .before .before .before .before .before .before .before .before .before .before .loop .inv) (c .before .before .before .before .before .before .before .before .before .before .loop-test .taken) (c .before .before .before .before .before .before .before .before .before .before2 .ensures) (c .before .before .before .before .before .before .before .read-line .ensures) (c .before .before .before .before .before .before .if1 .left) (c .before .before .before .before .before .if2 .left) (c .before .before .before .put-record .ensures)) (omega (arith, c .if3 .taken))
+returns-4 c = gathering-end (turn (c .before)) (omega (arith, c .if3 .taken))
 
 pub gather-spec : {M : Type 1} → statement M
 gather-spec =

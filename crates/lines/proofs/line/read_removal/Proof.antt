@@ -15,6 +15,17 @@ use borrow.Author.Needs.{needs}
 use Rattle.lines.proofs.line.read_removal.Statement.{statement}
 use Rattle.lines.proofs.line.read_removal.Tie as tie
 
+-- the first tab is found, and what stands behind it
+one : (f : tie.After-before2) → f .before2 .result ≤ length (f .before .before .args .rest .now)
+one f = found-inside tab (f .before .before .args .rest .now) 0 (omega arith) (f .before2 .ensures)
+
+-- and the second
+next : (g : tie.After-before3) → g .before .before .before2 .result + 1 ≤ length (g .before .before .before .before .args .rest .now)
+next g = omega (arith, one (g .before .before), g .before .if1 .left)
+
+two : (g : tie.After-before3) → g .before3 .result ≤ length (g .before .before .before .before .args .rest .now)
+two g = found-inside tab (g .before .before .before .before .args .rest .now) (g .before .before .before2 .result + 1) (next g) (g .before3 .ensures)
+
 before-requires : tie.Need-before-requires
 before-requires c κs = search needs
 
@@ -23,108 +34,44 @@ unfolding wordsOf
 returns c = removal-short _ (c .before .before2 .ensures) (c .if1 .taken)
 
 add-before : tie.Need-add-before
-add-before c =
-    let f = c .before in
-    let r = f .before .before .args .rest .now in
-    let one = found-inside tab r 0 (omega arith) (f .before2 .ensures) in
-    record { fits = omega (arith, one, c .if1 .left, f .before .before .good .0) }
+add-before c = record { fits = omega (arith, one (c .before), c .if1 .left, c .before .before .before .good .0) }
 
 before-requires-2 : tie.Need-before-requires-2
-before-requires-2 c κs =
-    let f = c .before in
-    let r = f .before .before .args .rest .now in
-    let one = found-inside tab r 0 (omega arith) (f .before2 .ensures) in
-    omega (arith, one, c .if1 .left)
+before-requires-2 c κs = omega (arith, one (c .before), c .if1 .left)
 
 returns-2 : tie.Need-returns-2
 unfolding wordsOf
 returns-2 c = removal-two _ (c .before .before .before .before2 .ensures) (c .before .before .if1 .left) (c .before .before3 .ensures) (c .if2 .taken)
 
 slice-aggregate-number : tie.Need-slice-aggregate-number
-slice-aggregate-number c =
-    let g = c .before .before in
-    let f = g .before .before in
-    let r = f .before .before .args .rest .now in
-    let one = found-inside tab r 0 (omega arith) (f .before2 .ensures) in
-    let next : f .before2 .result + 1 ≤ length r = omega (arith, one, g .before .if1 .left) in
-    let two = found-inside tab r (f .before2 .result + 1) next (g .before3 .ensures) in
-    sym (length-take-le (f .before2 .result) r one)
+slice-aggregate-number c = sym (length-take-le _ (c .before .before .before .before .before .before .args .rest .now) (one (c .before .before .before .before)))
 
 number-requires : tie.Need-number-requires
 number-requires c κs = search needs
 
 add-number : tie.Need-add-number
-add-number c =
-    let g = c .before .before .before in
-    let f = g .before .before in
-    let r = f .before .before .args .rest .now in
-    let one = found-inside tab r 0 (omega arith) (f .before2 .ensures) in
-    let next : f .before2 .result + 1 ≤ length r = omega (arith, one, g .before .if1 .left) in
-    let two = found-inside tab r (f .before2 .result + 1) next (g .before3 .ensures) in
-    record { fits = omega (arith, next, f .before .before .good .0) }
+add-number c = record { fits = omega (arith, next (c .before .before .before), c .before .before .before .before .before .before .before .good .0) }
 
 sub-number : tie.Need-sub-number
-sub-number c =
-    let g = c .before .before .before in
-    let f = g .before .before in
-    let r = f .before .before .args .rest .now in
-    let one = found-inside tab r 0 (omega arith) (f .before2 .ensures) in
-    let next : f .before2 .result + 1 ≤ length r = omega (arith, one, g .before .if1 .left) in
-    let two = found-inside tab r (f .before2 .result + 1) next (g .before3 .ensures) in
-    omega (arith, g .before3 .ensures)
+sub-number c = omega (arith, c .before .before .before .before3 .ensures)
 
 part-number-start : tie.Need-part-number-start
-part-number-start c =
-    let g = c .before .before .before in
-    let f = g .before .before in
-    let r = f .before .before .args .rest .now in
-    let one = found-inside tab r 0 (omega arith) (f .before2 .ensures) in
-    let next : f .before2 .result + 1 ≤ length r = omega (arith, one, g .before .if1 .left) in
-    let two = found-inside tab r (f .before2 .result + 1) next (g .before3 .ensures) in
-    omega (arith, g .before3 .ensures)
+part-number-start c = omega (arith, c .before .before .before .before3 .ensures)
 
 part-number-end : tie.Need-part-number-end
-part-number-end c =
-    let g = c .before .before .before in
-    let f = g .before .before in
-    let r = f .before .before .args .rest .now in
-    let one = found-inside tab r 0 (omega arith) (f .before2 .ensures) in
-    let next : f .before2 .result + 1 ≤ length r = omega (arith, one, g .before .if1 .left) in
-    let two = found-inside tab r (f .before2 .result + 1) next (g .before3 .ensures) in
-    two
+part-number-end c = two (c .before .before .before)
 
 number-requires-2 : tie.Need-number-requires-2
 number-requires-2 c κs = search needs
 
 add-number-2 : tie.Need-add-number-2
-add-number-2 c =
-    let g = c .before .before .before .before .before in
-    let f = g .before .before in
-    let r = f .before .before .args .rest .now in
-    let one = found-inside tab r 0 (omega arith) (f .before2 .ensures) in
-    let next : f .before2 .result + 1 ≤ length r = omega (arith, one, g .before .if1 .left) in
-    let two = found-inside tab r (f .before2 .result + 1) next (g .before3 .ensures) in
-    record { fits = omega (arith, two, c .before .before .before .before .if2 .left, f .before .before .good .0) }
+add-number-2 c = record { fits = omega (arith, two (c .before .before .before .before .before), c .before .before .before .before .if2 .left, c .before .before .before .before .before .before .before .before .before .good .0) }
 
 sub-number-2 : tie.Need-sub-number-2
-sub-number-2 c =
-    let g = c .before .before .before .before .before in
-    let f = g .before .before in
-    let r = f .before .before .args .rest .now in
-    let one = found-inside tab r 0 (omega arith) (f .before2 .ensures) in
-    let next : f .before2 .result + 1 ≤ length r = omega (arith, one, g .before .if1 .left) in
-    let two = found-inside tab r (f .before2 .result + 1) next (g .before3 .ensures) in
-    omega (arith, two, c .before .before .before .before .if2 .left)
+sub-number-2 c = omega (arith, two (c .before .before .before .before .before), c .before .before .before .before .if2 .left)
 
 part-number-start-2 : tie.Need-part-number-start-2
-part-number-start-2 c =
-    let g = c .before .before .before .before .before in
-    let f = g .before .before in
-    let r = f .before .before .args .rest .now in
-    let one = found-inside tab r 0 (omega arith) (f .before2 .ensures) in
-    let next : f .before2 .result + 1 ≤ length r = omega (arith, one, g .before .if1 .left) in
-    let two = found-inside tab r (f .before2 .result + 1) next (g .before3 .ensures) in
-    omega (arith, two, c .before .before .before .before .if2 .left)
+part-number-start-2 c = omega (arith, two (c .before .before .before .before .before), c .before .before .before .before .if2 .left)
 
 part-number-end-2 : tie.Need-part-number-end-2
 part-number-end-2 c = search needs
@@ -134,8 +81,7 @@ number-requires-3 c κs = search needs
 
 returns-3 : tie.Need-returns-3
 unfolding wordsOf
-returns-3 c =
-    removal-refused _ (c .before .before .before .before .before .before .before .before .before .before .before2 .ensures) (c .before .before .before .before .before .before .before .before .before .if1 .left) (c .before .before .before .before .before .before .before .before .before3 .ensures) (c .before .before .before .before .before .before .before .if2 .left) (c .before .before .before .before .before .number .ensures) (c .before .before .before .number2 .ensures) (c .before .number3 .ensures) (c .if3 .taken)
+returns-3 c = removal-refused _ (c .before .before .before .before .before .before .before .before .before .before .before2 .ensures) (c .before .before .before .before .before .before .before .before .before .if1 .left) (c .before .before .before .before .before .before .before .before .before3 .ensures) (c .before .before .before .before .before .before .before .if2 .left) (c .before .before .before .before .before .number .ensures) (c .before .before .before .number2 .ensures) (c .before .number3 .ensures) (c .if3 .taken)
 
 cast-t22 : tie.Need-cast-t22
 cast-t22 c = record { fits = number-word _ (c .before .before .before .before .before .number .ensures) (or-left (eqb (c .before .before .before .before .before .number .result) wordLimit) (eqb (c .before .before .before .number2 .result) wordLimit) (or-left (eqb (c .before .before .before .before .before .number .result) wordLimit || eqb (c .before .before .before .number2 .result) wordLimit) _ (c .if3 .left))) }
@@ -148,8 +94,7 @@ cast-t24 c = record { fits = number-word _ (c .before .number3 .ensures) (or-rig
 
 returns-4 : tie.Need-returns-4
 unfolding wordsOf
-returns-4 c =
-    removal-read _ (c .before .before .before .before .before .before .before .before .before .before .before2 .ensures) (c .before .before .before .before .before .before .before .before .before .if1 .left) (c .before .before .before .before .before .before .before .before .before3 .ensures) (c .before .before .before .before .before .before .before .if2 .left) (c .before .before .before .before .before .number .ensures) (c .before .before .before .number2 .ensures) (c .before .number3 .ensures) (c .if3 .left)
+returns-4 c = removal-read _ (c .before .before .before .before .before .before .before .before .before .before .before2 .ensures) (c .before .before .before .before .before .before .before .before .before .if1 .left) (c .before .before .before .before .before .before .before .before .before3 .ensures) (c .before .before .before .before .before .before .before .if2 .left) (c .before .before .before .before .before .number .ensures) (c .before .before .before .number2 .ensures) (c .before .number3 .ensures) (c .if3 .left)
 
 pub read-removal-spec : {M : Type 1} → statement M
 read-removal-spec =
