@@ -1,10 +1,10 @@
 -- What is claimed of a scorekeepers' file, each as a type that a theorem inhabits.
 use Prim.Native.Nat.{ℕ, _*_, _≤_, _<_}
 use mathlib.Core.Path.{_≡_}
-use mathlib.Core.Logic.{_≢_}
+use mathlib.Core.Logic.{_≢_, _⊎_}
 use mathlib.Core.Bool.{true, false}
 use mathlib.Core.List.{List, [], _∷_, _++_}
-use lib.ListN.{length, take}
+use lib.ListN.{length, take, getD}
 use Rattle.pair.specs.Rank.{wordLimit}
 use Rattle.pair.specs.Rising.{risingFrom}
 use Rattle.figures.specs.Figures.{decimal}
@@ -26,7 +26,14 @@ LinesRead =
     ((t p : ℕ) → t < wordLimit → p < wordLimit → lineRecord (additionLine t p) ≡ 1 ∷ t ∷ p ∷ p ∷ [])
     × ((t a z : ℕ) → t < wordLimit → a < wordLimit → z < wordLimit → lineRecord (removalLine t a z) ≡ 2 ∷ t ∷ a ∷ z ∷ [])
 
--- and no line that is a record has more than 34 bytes
+-- and no other line is a record
+unfoldable pub LinesOnly : Type 0
+LinesOnly =
+    (l : List ℕ) → length (lineRecord l) ≢ 0 →
+    let r = lineRecord l in
+    (l ≡ additionLine (getD r 1 0) (getD r 2 0)) ⊎ (l ≡ removalLine (getD r 1 0) (getD r 2 0) (getD r 3 0))
+
+-- so none has more than 34 bytes
 abbrev pub lineBytes : ℕ
 lineBytes = 34
 

@@ -1,9 +1,10 @@
 -- What is claimed of the scorekeepers' file and of the sort, written out, and files that the checker computes.
 use Prim.Native.Nat.{ℕ, _+_, _≤_, _<_}
 use mathlib.Core.Path.{_≡_, refl}
+use mathlib.Core.Logic.{_⊎_}
 use mathlib.Core.Bool.{Bool, true, false}
 use mathlib.Core.List.{List, [], _∷_, _++_}
-use lib.ListN.{length, take}
+use lib.ListN.{length, take, getD}
 use lib.Dec.{eqb}
 use Rattle.pair.specs.Rank.{Words}
 use Rattle.pair.specs.Rising.{keep, above, within, risingFrom, insert, last, any}
@@ -21,10 +22,10 @@ use Rattle.batch.specs.Batch.{Update, updates, anyUpdate, adds, removes, withdr
 use Rattle.update.specs.Step.{remains, spent, nextBoundary, freed, grown, configured, dueBlock, dueEntry, configuration, nextWrite, theWrite, crowded, stepNumber, taken, refused, step}
 use Rattle.update.specs.Pass.{blocksFrom, blocks, stepLimit}
 use Rattle.lines.specs.Lines.{longer, lines, fields, recordOf, lineRecord, lineNumber, faultFrom, fault, lineRecords, batchOf, scored}
-use Rattle.lines.specs.Claims.{additionLine, removalLine, LinesRead, LinesShort, FileSettled, RoomEnough, BatchSorted, OrderMeansNothing}
+use Rattle.lines.specs.Claims.{additionLine, removalLine, LinesRead, LinesOnly, LinesShort, FileSettled, RoomEnough, BatchSorted, OrderMeansNothing}
 use Rattle.lines.proofs.Meaning.{roomEnough, batchSorted, orderMeansNothing}
 use Rattle.lines.proofs.Settled.{linesShort, fileSettled}
-use Rattle.lines.proofs.Written.{linesRead}
+use Rattle.lines.proofs.Written.{linesRead, linesOnly}
 use Rattle.scores.specs.declared.Outcome.the-variants.{Finished, Refused}
 use Rattle.scores.specs.Outcome.{freshCard, passFrom, stepsMost, pass, outcome, printedLine, printed}
 use Rattle.scores.specs.Claims.{OutcomeSettled, PassEnds}
@@ -59,7 +60,7 @@ pub sort-alone :
 unfolding SortAlone
 sort-alone = sortAlone
 
--- a line written out is read as its record, and none that is a record has more than 34 bytes
+-- a line written out is read as its record, no other line is a record, and none has more than 34 bytes
 pub additions-read :
     (t p : ℕ) → t < 4294967296 → p < 4294967296 → lineRecord (65 ∷ 9 ∷ decimal t ++ 9 ∷ decimal p) ≡ 1 ∷ t ∷ p ∷ p ∷ []
 unfolding LinesRead additionLine
@@ -70,6 +71,14 @@ pub removals-read :
     lineRecord (82 ∷ 9 ∷ decimal t ++ 9 ∷ decimal a ++ 9 ∷ decimal z) ≡ 2 ∷ t ∷ a ∷ z ∷ []
 unfolding LinesRead removalLine
 removals-read = linesRead .1
+
+pub lines-only :
+    (l : List ℕ) → (length (lineRecord l) ≡ 0 → ⊥) →
+    let r = lineRecord l in
+    (l ≡ 65 ∷ 9 ∷ decimal (getD r 1 0) ++ 9 ∷ decimal (getD r 2 0))
+    ⊎ (l ≡ 82 ∷ 9 ∷ decimal (getD r 1 0) ++ 9 ∷ decimal (getD r 2 0) ++ 9 ∷ decimal (getD r 3 0))
+unfolding LinesOnly additionLine removalLine
+lines-only = linesOnly
 
 pub lines-short : (l : List ℕ) → (length (lineRecord l) ≡ 0 → ⊥) → length l ≤ 34
 unfolding LinesShort
