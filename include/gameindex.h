@@ -53,8 +53,9 @@ enum {
 enum {
     GI_RECORD_WORDS = 4,
     GI_BATCH_RECORDS_MAX = 4096,
-    GI_RECORD_ADD = 1,   /* adds the pair of term and from; to is from again */
-    GI_RECORD_REMOVE = 2 /* removes the term's positions from from to to */
+    GI_RECORD_ADD = 1,    /* adds the pair of term and from; to is from again */
+    GI_RECORD_REMOVE = 2, /* removes the term's positions from from to to */
+    GI_RECORD_ANNUL = 3   /* removes the positions from from to to under every term; its own term is 0 */
 };
 
 /* The writes of a pass; a step makes one of them. */
