@@ -1,7 +1,7 @@
 -- What a batch that is in order is made of.
 use Prim.Native.Nat.{ℕ, suc, _*_, _%_, _≤_, _<_}
-use mathlib.Core.Path.{_≡_}
-use mathlib.Core.Bool.{Bool, true, false, not, false≢true}
+use mathlib.Core.Path.{_≡_, refl, sym, _∙_}
+use mathlib.Core.Bool.{Bool, true, false, cond, _||_, not, false≢true}
 use mathlib.Core.List.{List, [], _∷_}
 use mathlib.Core.Logic.{_≢_, _⊎_, inl, inr}
 use lib.ListN.{length}
@@ -60,17 +60,31 @@ EachUpdate-none f [] h = tt
 EachUpdate-none f (u ∷ us) h =
     (or-left (f u) (anyUpdate f us) h, EachUpdate-none f us (or-right (f u) (anyUpdate f us) h))
 
--- an update that is well formed names a term and a position
+-- an update that is well formed names a position, and a term unless it is of kind 3
 pub record Formed (u : Update) : Type 0 where
-  pub termLow : 1 ≤ u .term
+  pub termNone : u .kind ≡ 3 → u .term ≡ 0
+  pub termLow : u .kind ≢ 3 → 1 ≤ u .term
   pub fromLow : 1 ≤ u .from
 
 pub formed-facts : (u : Update) → illFormed u ≡ false → Formed u
 unfolding illFormed
-formed-facts u e = record { termLow = low (u .term) (search (or-left, or-right)); fromLow = low (u .from) (search (or-left, or-right)) }
+formed-facts u e =
+    record {
+      termNone = none (eqb (u .term) 0) refl (search (or-left, or-right));
+      termLow = named (eqb (u .term) 0) refl (search (or-left, or-right));
+      fromLow = low (u .from) (search (or-left, or-right));
+    }
   where
     low : (n : ℕ) → eqb n 0 ≡ false → 1 ≤ n
     low n f = let d : n ≢ 0 = eqb-false n 0 f in omega arith
+
+    none : (t : Bool) → eqb (u .term) 0 ≡ t → not (cond t (eqb (u .kind) 3) (eqb (u .kind) 1 || eqb (u .kind) 2)) ≡ false → u .kind ≡ 3 → u .term ≡ 0
+    none true f k n = eqb-true (u .term) 0 f
+    none false f k n = absurd (false≢true (sym k ∙ rw n))
+
+    named : (t : Bool) → eqb (u .term) 0 ≡ t → not (cond t (eqb (u .kind) 3) (eqb (u .kind) 1 || eqb (u .kind) 2)) ≡ false → u .kind ≢ 3 → 1 ≤ u .term
+    named true f k n = absurd (n (eqb-true (u .kind) 3 (not-false (eqb (u .kind) 3) k)))
+    named false f k n = low (u .term) f
 
 -- the updates of a batch of 32-bit words have such words
 pub words-updates : (b : List ℕ) → Words b → EachUpdate UpdateWords (updates b)
@@ -106,15 +120,18 @@ added-Each P (u ∷ us) x a h = go (or-cases (adds x u) (added us x) h) (added-E
 pub added-positive : (b : List ℕ) → batchNumber b ≡ 0 → (x : ℕ) → added (updates b) x ≡ true → 0 < x
 added-positive b e x h =
     added-Each (λ y. 0 < y) (updates b) x
-    (EachUpdate-imply Formed (λ u. u .kind ≡ 1 → 0 < rank (u .term) (u .from)) (λ u f i. omega arith) (updates b) (formed-updates b e)) h
+    (EachUpdate-imply Formed (λ u. u .kind ≡ 1 → 0 < rank (u .term) (u .from)) (λ u f i. omega (arith, f .fromLow)) (updates b) (formed-updates b e)) h
 
 -- of 32-bit words, it adds pairs
 pub added-proper : (b : List ℕ) → Words b → batchNumber b ≡ 0 → (x : ℕ) → added (updates b) x ≡ true → Proper x
 added-proper b w e x h =
     added-Each Proper (updates b) x
     (EachUpdate-imply (λ u. Formed u × UpdateWords u) (λ u. u .kind ≡ 1 → Proper (rank (u .term) (u .from)))
-    (λ u f i. proper-rank (u .term) (u .from) (f .0 .termLow) (f .1 .termWord) (f .0 .fromLow) (f .1 .fromWord)) (updates b)
+    (λ u f i. proper-rank (u .term) (u .from) (f .0 .termLow (other u i)) (f .1 .termWord) (f .0 .fromLow) (f .1 .fromWord)) (updates b)
     (EachUpdate-both Formed UpdateWords (updates b) (formed-updates b e) (words-updates b w))) h
+  where
+    other : (u : Update) → u .kind ≡ 1 → u .kind ≢ 3
+    other u i j = omega arith
 
 -- applied to a set of pairs it gives a set of pairs
 pub rising-batch : (b s : List ℕ) → batchNumber b ≡ 0 → risingFrom 0 s ≡ true → risingFrom 0 (applied (updates b) s) ≡ true

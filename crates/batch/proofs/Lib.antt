@@ -1,4 +1,6 @@
+pub mod Annulling
 pub mod Decisions
+pub mod Filling
 pub mod InOrder
 pub mod Local
 pub mod Meaning

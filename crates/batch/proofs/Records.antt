@@ -42,6 +42,15 @@ updates-short (k ∷ t ∷ []) h = refl
 updates-short (k ∷ t ∷ a ∷ []) h = refl
 updates-short (k ∷ t ∷ a ∷ z ∷ ws) h = absurd (omega arith)
 
+-- how many records there are
+pub length-updates : (b : List ℕ) → length (updates b) ≡ length b / 4
+unfolding updates
+length-updates [] = refl
+length-updates (k ∷ []) = refl
+length-updates (k ∷ t ∷ []) = refl
+length-updates (k ∷ t ∷ a ∷ []) = refl
+length-updates (k ∷ t ∷ a ∷ z ∷ ws) = omega (arith, length-updates ws)
+
 -- the record n, and the end of the records
 pub update-at : (b : List ℕ) (n : ℕ) → n < length b / 4 → drop n (updates b) ≡ updateOf (recordAt b n) ∷ drop (n + 1) (updates b)
 update-at b n h =

@@ -10,9 +10,9 @@ use lib.Dec.{ltb, eqb}
 use borrow.Author.Tests.{ltb-true, ltb-false, le-ltb, lt-ltb}
 use Rattle.pair.specs.Rank.{rank}
 use Rattle.pair.proofs.Tests.{and-left, and-right, or-left, or-right, or-both, and-both, not-holds}
-use Rattle.batch.specs.declared.Cursor.{Cursor}
+use Rattle.batch.specs.declared.Passed.{Passed}
 use Rattle.batch.specs.Batch.{Update, updates, falls}
-use Rattle.batch.specs.code.Search.{recordAt, updateOf, lesser, leastAdded, addsAbove, firstAdded, beforeAdded, nextAddition, startingTo, reachWith, reachOf, addedWith, addedOf, behind, decision, decided}
+use Rattle.batch.specs.code.Search.{recordAt, updateOf, lesser, leastAdded, addsAbove, firstAdded, beforeAdded, nextAddition, startingTo, reachWith, reachOf, addedWith, addedOf, behind, passedTo}
 use Rattle.batch.proofs.Merge.{leastAdded-first}
 use Rattle.batch.proofs.Records.{update-at, update-end}
 
@@ -77,28 +77,28 @@ leastAdded-before (u ∷ us) k j h = go (eqb (u .kind) 1 && ltb k here) refl (le
     go true e ih = refl
     go false e ih = rw (low e) ih
 
--- a turn of the decision: a record that starts at or below the pair goes behind the cursor
-pub decided-turn :
-    (b : List ℕ) (k : Cursor) (x : ℕ) → k .next < length b / 4 → rank (recordAt b (k .next) .term) (recordAt b (k .next) .from) ≤ x →
+-- a turn of passing: a record that starts at or below the pair is passed
+pub passed-turn :
+    (b : List ℕ) (k : Passed) (x : ℕ) → k .next < length b / 4 → rank (recordAt b (k .next) .term) (recordAt b (k .next) .from) ≤ x →
     let u = updateOf (recordAt b (k .next)) in
-    decided b k x ≡ decided b (record { next = k .next + 1; reach = reachWith u (k .reach); added = addedWith u (k .added) }) x
-unfolding decided behind startingTo reachOf addedOf
-decided-turn b k x h l =
+    passedTo b k x ≡ passedTo b (record { next = k .next + 1; reach = reachWith 2 u (k .reach); added = addedWith u (k .added) }) x
+unfolding passedTo behind startingTo reachOf addedOf
+passed-turn b k x h l =
     let us = startingTo x (drop (k .next + 1) (updates b)) in
     let more : k .next + suc (length us) ≡ k .next + 1 + length us = omega arith in
     rw (update-at b (k .next) h, le-ltb x (rank (recordAt b (k .next) .term) (recordAt b (k .next) .from)) l, more)
 
 -- its end: the next record starts above the pair, or there is none
-decided-here : (b : List ℕ) (k : Cursor) (x : ℕ) → startingTo x (drop (k .next) (updates b)) ≡ [] → decided b k x ≡ decision k x
-unfolding decided behind reachOf addedOf
-decided-here b k x e = rw (e, add-zero (k .next))
+passed-here : (b : List ℕ) (k : Passed) (x : ℕ) → startingTo x (drop (k .next) (updates b)) ≡ [] → passedTo b k x ≡ k
+unfolding passedTo behind reachOf addedOf
+passed-here b k x e = rw (e, add-zero (k .next))
 
-pub decided-stop :
-    (b : List ℕ) (k : Cursor) (x : ℕ) → k .next < length b / 4 → x < rank (recordAt b (k .next) .term) (recordAt b (k .next) .from) →
-    decided b k x ≡ decision k x
+pub passed-stop :
+    (b : List ℕ) (k : Passed) (x : ℕ) → k .next < length b / 4 → x < rank (recordAt b (k .next) .term) (recordAt b (k .next) .from) →
+    passedTo b k x ≡ k
 unfolding startingTo
-decided-stop b k x h l = decided-here b k x (rw (update-at b (k .next) h, lt-ltb x (rank (recordAt b (k .next) .term) (recordAt b (k .next) .from)) l))
+passed-stop b k x h l = passed-here b k x (rw (update-at b (k .next) h, lt-ltb x (rank (recordAt b (k .next) .term) (recordAt b (k .next) .from)) l))
 
-pub decided-end : (b : List ℕ) (k : Cursor) (x : ℕ) → length b / 4 ≤ k .next → decided b k x ≡ decision k x
+pub passed-end : (b : List ℕ) (k : Passed) (x : ℕ) → length b / 4 ≤ k .next → passedTo b k x ≡ k
 unfolding startingTo
-decided-end b k x h = decided-here b k x (rw (update-end b (k .next) h))
+passed-end b k x h = passed-here b k x (rw (update-end b (k .next) h))

@@ -4,11 +4,15 @@ ghost use Prim.Native.Nat.{_/_, _<_};
 ghost use lib.ListN.{length};
 ghost use Rattle.pair.specs.Rank.{rank};
 ghost use Rattle.batch.specs.Batch.{illFormed, batchNumber};
-ghost use Rattle.batch.specs.code.Search.{recordAt, updateOf, nextAddition, reachWith, addedWith, decided};
+ghost use Rattle.batch.specs.code.Search.{recordAt, updateOf, nextAddition, reachWith, addedWith, passedTo, decided};
 use pair::Pair;
 
-// The words of a record, and the most words of a batch: 4,096 records.
-const RECORD_WORDS: usize = 4;
+pub mod rounds;
+
+// The words of a record, the most records of a batch, and their words.
+pub(crate) const RECORD_WORDS: usize = 4;
+
+pub const RECORDS_MOST: usize = 4_096;
 
 const MOST_WORDS: usize = 16_384;
 
@@ -16,21 +20,23 @@ const ADDS: u32 = 1;
 
 const REMOVES: u32 = 2;
 
+pub(crate) const ANNULS: u32 = 3;
+
 // The numbers of a batch that is not in order.
 const ILL_FORMED: u32 = 6;
 
 const ORDER_FALLS: u32 = 7;
 
 // A record of a batch.
-struct Record {
-    kind: u32,
-    term: u32,
-    from: u32,
-    to: u32,
+pub(crate) struct Record {
+    pub(crate) kind: u32,
+    pub(crate) term: u32,
+    pub(crate) from: u32,
+    pub(crate) to: u32,
 }
 
 // The record with a number, from 0.
-fn record_at(batch: &[u32], n: usize) -> Record
+pub(crate) fn record_at(batch: &[u32], n: usize) -> Record
     requires { ⌜ n < length (now batch) / 4 ⌝ }
     ensures { λ r. ⌜ r ≡ recordAt (now (batch .entry)) n ⌝ }
 {
@@ -44,7 +50,7 @@ fn record_at(batch: &[u32], n: usize) -> Record
 }
 
 // The rank of the first pair that a record names.
-fn first_rank(u: Record) -> u64
+pub(crate) fn first_rank(u: Record) -> u64
     ensures { λ r. ⌜ r ≡ rank (u .term) (u .from) ⌝ }
 {
     let term = u.term;
@@ -61,9 +67,10 @@ fn ill_formed(u: Record) -> bool
     let term = u.term;
     let from = u.from;
     let to = u.to;
-    !((kind == ADDS) | (kind == REMOVES))
-        | !pair::is_pair(term, from)
-        | !pair::is_pair(term, to)
+    ((term == 0) & (kind != ANNULS))
+        | ((term != 0) & (kind != ADDS) & (kind != REMOVES))
+        | (from == 0)
+        | (to == 0)
         | (to < from)
         | ((kind == ADDS) & (from < to))
 }
@@ -121,18 +128,27 @@ pub fn next_addition(batch: &[u32], from: usize, above: u64) -> Addition
     Addition { at: n, rank: 0 }
 }
 
-// A place in the batch for questions with rising ranks: the next record, the greatest rank that the removals before it reach to, and
-// the rank of the last addition before it.
-pub struct Cursor {
+// Records passed by questions with rising ranks: the next record, the greatest rank that the removals before it reach to, and the rank of
+// the last addition before it.
+pub struct Passed {
     pub next: usize,
     pub reach: u64,
     pub added: u64,
 }
 
+// A place in the batch for questions with rising ranks: the records passed, and how many rounds start at or below the last position.
+pub struct Cursor {
+    pub passed: Passed,
+    pub begun: usize,
+}
+
 pub const START: Cursor = Cursor {
-    next: 0,
-    reach: 0,
-    added: 0,
+    passed: Passed {
+        next: 0,
+        reach: 0,
+        added: 0,
+    },
+    begun: 0,
 };
 
 // Whether the batch withdraws a pair, and the cursor behind it.
@@ -141,9 +157,9 @@ pub struct Decision {
     pub withdrawn: bool,
 }
 
-// The rank that the removals reach to, with one record more.
+// The rank that the removals of a term reach to, with one record more.
 fn reach_with(u: Record, reach: u64) -> u64
-    ensures { λ r. ⌜ r ≡ reachWith (updateOf u) reach ⌝ }
+    ensures { λ r. ⌜ r ≡ reachWith 2 (updateOf u) reach ⌝ }
 {
     let last = Pair {
         term: u.term,
@@ -166,13 +182,13 @@ fn added_with(u: Record, added: u64) -> u64
     added
 }
 
-// Decides a pair: reads the records that start at or below it, and says whether one of those begun reaches to it while none adds it.
-pub fn decide(batch: &[u32], cursor: Cursor, rank: u64) -> Decision
-    ensures { λ r. ⌜ r ≡ decided (now (batch .entry)) cursor rank ⌝ }
+// Passes the records that start at or below a pair.
+fn pass_to(batch: &[u32], passed: Passed, rank: u64) -> Passed
+    ensures { λ r. ⌜ r ≡ passedTo (now (batch .entry)) passed rank ⌝ }
 {
-    let mut next = cursor.next;
-    let mut reach = cursor.reach;
-    let mut added = cursor.added;
+    let mut next = passed.next;
+    let mut reach = passed.reach;
+    let mut added = passed.added;
     while next < batch.len() / RECORD_WORDS {
         let u = record_at(batch, next);
         if rank < first_rank(u) {
@@ -182,8 +198,23 @@ pub fn decide(batch: &[u32], cursor: Cursor, rank: u64) -> Decision
         added = added_with(u, added);
         next += 1;
     }
+    Passed { next, reach, added }
+}
+
+// Decides a pair, with where the rounds reach to: whether a removal of its term begun at or below it reaches to it, or a round begun at or
+// below its position reaches to that, while no record adds it.
+pub fn decide(batch: &[u32], reaches: &[u32], cursor: Cursor, rank: u64) -> Decision
+    ensures { λ r. ⌜ r ≡ decided (now (batch .entry)) (now (reaches .entry)) cursor rank ⌝ }
+{
+    let passed = pass_to(batch, cursor.passed, rank);
+    let pair = Pair::of_rank(rank);
+    let position = pair.position;
+    let begun = rounds::begun(batch, reaches.len(), cursor.begun, position);
+    let annulled = rounds::reached(reaches, begun, position);
+    let reach = passed.reach;
+    let added = passed.added;
     Decision {
-        cursor: Cursor { next, reach, added },
-        withdrawn: (rank <= reach) & (rank != added),
+        cursor: Cursor { passed, begun },
+        withdrawn: ((rank <= reach) | annulled) & (rank != added),
     }
 }

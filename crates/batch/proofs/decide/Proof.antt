@@ -1,66 +1,36 @@
--- `batch::decide` meets its contract. The invariant of its loop: what is decided at the cursor in hand is what is asked for.
-use Prim.Native.Nat.{_-_, _/_}
+-- `batch::decide` meets its contract.
+use Prim.Native.Nat.{ℕ, min, _≤_}
 use native.Mathlib.Omega.{arith}
-use mathlib.Core.Path.{_≡_, refl, sym, _∙_}
-use mathlib.Core.Logic.{⊎-elim}
-use lib.ListN.{length}
+use mathlib.Core.List.{List}
+use Rattle.batch.specs.code.Rounds.{begun}
 use Rattle.batch.specs.code.Search.{decided}
-use Rattle.batch.proofs.Search.{decided-turn, decided-stop, decided-end}
+use Rattle.batch.proofs.Annulling.{begun-most}
 use borrow.Author.Needs.{needs}
 use Rattle.batch.proofs.decide.Statement.{statement}
 use Rattle.batch.proofs.decide.Tie as tie
 
-abbrev Inv-loop : tie.InvT-loop
-Inv-loop batch rank next₀ reach₀ added₀ next reach added =
-    decided batch (record { next = next₀; reach = reach₀; added = added₀ }) rank ≡ decided batch (record { next = next; reach = reach; added = added }) rank
+pass-to-requires : tie.Need-pass-to-requires
+pass-to-requires c κs = search needs
 
-abbrev μ-loop : tie.MeasureT-loop
-μ-loop batch rank next₀ reach₀ added₀ next reach added = length batch / 4 - next
+of-rank-requires : tie.Need-of-rank-requires
+of-rank-requires c κs = search needs
 
-loop-holds : tie.Need-loop-holds Inv-loop μ-loop
-loop-holds c = refl
+begun-requires : tie.Need-begun-requires
+begun-requires c κs = search needs
 
-record-at-requires : tie.Need-record-at-requires Inv-loop μ-loop
-record-at-requires c κs = search needs
+-- no more have begun than the table has
+few : (xs : List ℕ) (n m j p : ℕ) → begun xs (min n m) j p ≤ n
+few xs n m j p = omega (arith, begun-most xs (min n m) j p)
 
-first-rank-requires : tie.Need-first-rank-requires Inv-loop μ-loop
-first-rank-requires c κs = search needs
+reached-requires : tie.Need-reached-requires
+reached-requires c κs = rw (c .begun .ensures) (few _ _ _ _ _)
 
-reach-with-requires : tie.Need-reach-with-requires Inv-loop μ-loop
-reach-with-requires c κs = search needs
-
-added-with-requires : tie.Need-added-with-requires Inv-loop μ-loop
-added-with-requires c κs = search needs
-
-add-next : tie.Need-add-next Inv-loop μ-loop
-add-next c = search needs
-
-loop-less : tie.Need-loop-less Inv-loop μ-loop
-loop-less c = omega arith
-
-loop-again : tie.Need-loop-again Inv-loop μ-loop
-loop-again c =
-    let f = c .before .before .before in
-    let t = f .before .before in
-    let l = rw (f .first-rank .ensures, f .before .record-at .ensures) at (c .before .before .if1 .left) in
-    t .before .loop .inv ∙ rw (c .added-with .ensures, c .before .reach-with .ensures, f .before .record-at .ensures) (decided-turn _ _ _ (t .loop-test .taken) l)
-
-returns : tie.Need-returns Inv-loop μ-loop
+returns : tie.Need-returns
+unfolding decided
 returns c =
-    sym (c .before .loop .inv ∙ ⊎-elim (λ w. decided-end _ _ _ (w .left)) (λ w. decided-stop _ _ _ (w .0 .taken) (rw (w .2 .ensures, w .1 .ensures) at (w .3 .taken))) (c .loop-test .came))
+    let b = c .before in
+    rw (c .reached .ensures, b .begun .ensures, b .before .of-rank .ensures, b .before .before .pass-to .ensures)
 
 pub decide-spec : {M : Type 1} → statement M
 decide-spec =
-    tie.close
-    (tie.spec
-    Inv-loop
-    μ-loop
-    loop-holds
-    record-at-requires
-    first-rank-requires
-    reach-with-requires
-    added-with-requires
-    add-next
-    loop-less
-    loop-again
-    returns)
+    tie.close (tie.spec pass-to-requires of-rank-requires begun-requires reached-requires returns)

@@ -1,16 +1,18 @@
 -- What the code's walks over a batch answer.
-use Prim.Native.Nat.{ℕ, zero, suc, min, _+_, _*_, _≤_, _<_}
+use Prim.Native.Nat.{ℕ, zero, suc, min, _+_, _*_, _/_, _≤_, _<_}
 use mathlib.Core.Path.{_≡_}
-use mathlib.Core.Bool.{Bool, cond, _&&_, not}
+use mathlib.Core.Bool.{Bool, cond, _&&_, _||_, not}
 use mathlib.Core.List.{List, [], _∷_}
 use lib.ListN.{length, drop, getD}
 use lib.Dec.{ltb, leb, eqb}
-use Rattle.pair.specs.Rank.{wordLimit, rank}
+use Rattle.pair.specs.Rank.{wordLimit, rank, position}
 use Rattle.batch.specs.declared.Addition.{Addition}
 use Rattle.batch.specs.declared.Cursor.{Cursor}
 use Rattle.batch.specs.declared.Decision.{Decision}
+use Rattle.batch.specs.declared.Passed.{Passed}
 use Rattle.batch.specs.declared.Record.{Record}
 use Rattle.batch.specs.Batch.{Update, updates}
+use Rattle.batch.specs.code.Rounds.{starts, begun, reached}
 
 -- the record n, and the update that a record is
 abbrev pub recordAt : List ℕ → ℕ → Record
@@ -61,13 +63,13 @@ unfoldable pub startingTo : ℕ → List Update → List Update
 startingTo x [] = []
 startingTo x (u ∷ us) = cond (ltb x (rank (u .term) (u .from))) [] (u ∷ startingTo x us)
 
--- the greatest pair that a removal reaches to, or k
-unfoldable pub reachWith : Update → ℕ → ℕ
-reachWith u k = cond (eqb (u .kind) 2 && ltb k (rank (u .term) (u .to))) (rank (u .term) (u .to)) k
+-- the greatest pair that a removal of the kind reaches to, or k
+unfoldable pub reachWith : ℕ → Update → ℕ → ℕ
+reachWith r u k = cond (eqb (u .kind) r && ltb k (rank (u .term) (u .to))) (rank (u .term) (u .to)) k
 
-unfoldable pub reachOf : ℕ → List Update → ℕ
-reachOf k [] = k
-reachOf k (u ∷ us) = reachOf (reachWith u k) us
+unfoldable pub reachOf : ℕ → ℕ → List Update → ℕ
+reachOf r k [] = k
+reachOf r k (u ∷ us) = reachOf r (reachWith r u k) us
 
 -- the pair of the last addition, or k
 unfoldable pub addedWith : Update → ℕ → ℕ
@@ -77,25 +79,38 @@ unfoldable pub addedOf : ℕ → List Update → ℕ
 addedOf k [] = k
 addedOf k (u ∷ us) = addedOf (addedWith u k) us
 
--- the cursor behind updates
-unfoldable pub behind : Cursor → List Update → Cursor
-behind k us = record { next = k .next + length us; reach = reachOf (k .reach) us; added = addedOf (k .added) us }
+-- updates passed after others
+unfoldable pub behind : Passed → List Update → Passed
+behind k us = record { next = k .next + length us; reach = reachOf 2 (k .reach) us; added = addedOf (k .added) us }
 
--- what is decided of a pair at a cursor: a removal reaches to it, and it is not the last one added
-abbrev pub decision : Cursor → ℕ → Decision
-decision k x = record { cursor = k; withdrawn = leb x (k .reach) && not (eqb x (k .added)) }
+-- the further updates that start at or below the pair passed too
+unfoldable pub passedTo : List ℕ → Passed → ℕ → Passed
+passedTo b k x = behind k (startingTo x (drop (k .next) (updates b)))
 
--- the same behind the further updates that start at or below the pair
-unfoldable pub decided : List ℕ → Cursor → ℕ → Decision
-decided b k x = decision (behind k (startingTo x (drop (k .next) (updates b)))) x
+-- what is decided of a pair at a cursor: a removal of its term reaches to it, or one of every term does to its position, and it is not
+-- the last one added
+abbrev pub decision : List ℕ → Cursor → ℕ → Decision
+decision ts k x =
+    record { cursor = k; withdrawn = (leb x (k .passed .reach) || reached ts (k .begun) (position x)) && not (eqb x (k .passed .added)) }
 
--- the cursor that questions up to the rank k leave
+-- the same behind the further updates, and at the rounds that start at or below its position
+unfoldable pub decided : List ℕ → List ℕ → Cursor → ℕ → Decision
+decided b ts k x =
+    decision ts
+    (record {
+      passed = passedTo b (k .passed) x;
+      begun = begun (starts (updates b)) (min (length ts) (length b / 4)) (k .begun) (position x);
+    })
+    x
+
+-- before the first question
 abbrev pub start : Cursor
-start = record { next = 0; reach = 0; added = 0 }
+start = record { passed = record { next = 0; reach = 0; added = 0 }; begun = 0 }
 
-unfoldable pub asked : List ℕ → ℕ → Cursor
-asked b k = behind start (startingTo k (updates b))
+-- all updates passed that start at or below the rank k
+unfoldable pub asked : List ℕ → ℕ → Passed
+asked b k = passedTo b (start .passed) k
 
--- the cursor follows questions up to k: what is decided at it of a later pair is decided behind all updates that start at or below that
+-- the cursor follows questions up to k: at a later pair it has passed all updates that start at or below that
 pub record Follows (b : List ℕ) (k : ℕ) (cursor : Cursor) : Type 0 where
-  pub decides : (x : ℕ) → k ≤ x → decided b cursor x ≡ decision (asked b x) x
+  pub passes : (x : ℕ) → k ≤ x → passedTo b (cursor .passed) x ≡ asked b x

@@ -1,0 +1,84 @@
+-- Filling the table of where the rounds reach to.
+use Prim.Native.Nat.{ℕ, zero, suc, min, max, _+_, _-_, _/_, _≤_, _<_, zero-le}
+use native.Mathlib.Nat.{add-zero}
+use native.Mathlib.Omega.{arith}
+use mathlib.Core.Path.{_≡_, refl, sym, ap, ap₂, _∙_}
+use mathlib.Core.List.{List, [], _∷_, _++_}
+use mathlib.Core.Logic.{_≢_}
+use lib.ListN.{length, take, drop, getD, set, length-drop, length-take, take-append-drop}
+use lib.Seq.{sets, set-out, length-sets, getD-drop, drop-drop, take-all}
+use borrow.Author.Tests.{eq-eqb, ne-eqb}
+use Rattle.pair.proofs.Lists.{sets-append, sets-next}
+use Rattle.batch.specs.declared.Record.{Record}
+use Rattle.batch.specs.Batch.{updates}
+use Rattle.batch.specs.code.Rounds.{reachesFrom, roundReaches}
+use Rattle.batch.specs.code.Search.{recordAt, updateOf}
+use Rattle.batch.proofs.Records.{update-at, update-end}
+
+-- words written beyond the end
+sets-out : (l : List ℕ) (i : ℕ) (vs : List ℕ) → length l ≤ i → sets l i vs ≡ l
+sets-out l i [] h = refl
+sets-out l i (v ∷ vs) h = rw (set-out l i v h) (sets-out l (suc i) vs (omega arith))
+
+-- the first n are written, and the rest is to come from where these reach to
+pub record Filling (b l now : List ℕ) (reach n : ℕ) : Type 0 where
+  pub few : n ≤ length (roundReaches (updates b))
+  pub fits : n ≤ length l
+  pub written : now ≡ sets l 0 (take n (roundReaches (updates b)))
+  pub rest : drop n (roundReaches (updates b)) ≡ reachesFrom reach (drop n (updates b))
+
+pub filling-start : (b l : List ℕ) → Filling b l l 0 0
+filling-start b l = record { few = zero-le; fits = zero-le; written = refl; rest = refl }
+
+pub filling-length : {b l now : List ℕ} {reach n : ℕ} → Filling b l now reach n → length now ≡ length l
+filling-length {b} {l} {now} {reach} {n} f = ap length (f .written) ∙ length-sets l 0 (take n (roundReaches (updates b)))
+
+module _ {b l now : List ℕ} {reach n : ℕ} (f : Filling b l now reach n) where
+  abbrev all : List ℕ
+  all = roundReaches (updates b)
+
+  -- one more of kind 3
+  pub filling-turn :
+      n < length b / 4 → n ≢ length now → recordAt b n .kind ≡ 3 →
+      Filling b l (set now n (max reach (recordAt b n .to))) (max reach (recordAt b n .to)) (n + 1)
+  filling-turn h i k =
+      record {
+        few = more;
+        fits = omega (arith, f .fits, filling-length f);
+        written = ap₂ (λ ws a. set ws n a) (f .written) (sym here) ∙ rw zero-first at (sets-next all l 0 n (omega (arith, more)));
+        rest = sym (drop-drop 1 n all) ∙ ap (drop 1) next;
+      }
+    where
+      far : ℕ
+      far = max reach (recordAt b n .to)
+
+      next : drop n all ≡ far ∷ reachesFrom far (drop (n + 1) (updates b))
+      next = f .rest ∙ (unfold reachesFrom in rw (update-at b n h, eq-eqb (recordAt b n .kind) 3 k))
+
+      more : n + 1 ≤ length all
+      more = omega (arith, length-drop n all, ap length next)
+
+      here : getD all n 0 ≡ far
+      here = sym (getD-drop n all 0 0 ∙ ap (λ k. getD all k 0) (add-zero n)) ∙ ap (λ ws. getD ws 0 0) next
+
+      zero-first : 0 + n ≡ n
+      zero-first = omega arith
+
+  -- the answer where no more of kind 3 are to come
+  ended : drop n all ≡ [] → (n ≡ min (length l) (length all)) × (now ≡ sets l 0 all)
+  ended e =
+      let n' : length all ≡ n = omega (arith, length-drop n all, ap length e, f .few) in
+      (omega (arith, n', f .fits), f .written ∙ ap (sets l 0) (take-all n all (omega (arith, n'))))
+
+  pub filling-other : n < length b / 4 → recordAt b n .kind ≢ 3 → (n ≡ min (length l) (length all)) × (now ≡ sets l 0 all)
+  filling-other h k = ended (f .rest ∙ (unfold reachesFrom in rw (update-at b n h, ne-eqb (recordAt b n .kind) 3 k)))
+
+  pub filling-end : length b / 4 ≤ n → (n ≡ min (length l) (length all)) × (now ≡ sets l 0 all)
+  filling-end h = ended (f .rest ∙ (unfold reachesFrom in rw (update-end b n h)))
+
+  -- and where the table is full
+  pub filling-full : n ≡ length now → (n ≡ min (length l) (length all)) × (now ≡ sets l 0 all)
+  filling-full e =
+      let full : length l ≡ n = sym (e ∙ filling-length f) in
+      let first : length (take n all) ≡ n = length-take n all ∙ omega (arith, f .few) in
+      (omega (arith, full, f .few), sym (ap (sets l 0) (sym (take-append-drop n all)) ∙ (sets-append (take n all) (drop n all) l 0 ∙ (sets-out (sets l 0 (take n all)) _ (drop n all) (omega (arith, length-sets l 0 (take n all), full, first)) ∙ sym (f .written)))))
