@@ -8,12 +8,14 @@ use mathlib.Core.Logic.{_≢_}
 use lib.ListN.{length, take, drop, getD, set, length-drop, length-take, take-append-drop}
 use lib.Seq.{sets, set-out, length-sets, getD-drop, drop-drop, take-all}
 use borrow.Author.Tests.{eq-eqb, ne-eqb}
-use Rattle.pair.proofs.Lists.{sets-append, sets-next}
+use Rattle.pair.proofs.Lists.{sets-append, sets-next, part-sets-same}
 use Rattle.batch.specs.declared.Record.{Record}
-use Rattle.batch.specs.Batch.{updates}
+use Rattle.batch.specs.Batch.{updates, batchNumber}
 use Rattle.batch.specs.code.Rounds.{reachesFrom, roundReaches}
 use Rattle.batch.specs.code.Search.{recordAt, updateOf}
-use Rattle.batch.proofs.Records.{update-at, update-end}
+use Rattle.batch.proofs.Annulling.{rounds-few}
+use Rattle.batch.proofs.InOrder.{inOrder}
+use Rattle.batch.proofs.Records.{length-updates, update-at, update-end}
 
 -- words written beyond the end
 sets-out : (l : List ℕ) (i : ℕ) (vs : List ℕ) → length l ≤ i → sets l i vs ≡ l
@@ -82,3 +84,14 @@ module _ {b l now : List ℕ} {reach n : ℕ} (f : Filling b l now reach n) wher
       let full : length l ≡ n = sym (e ∙ filling-length f) in
       let first : length (take n all) ≡ n = length-take n all ∙ omega (arith, f .few) in
       (omega (arith, full, f .few), sym (ap (sets l 0) (sym (take-append-drop n all)) ∙ (sets-append (take n all) (drop n all) l 0 ∙ (sets-out (sets l 0 (take n all)) _ (drop n all) (omega (arith, length-sets l 0 (take n all), full, first)) ∙ sym (f .written)))))
+
+-- in a table with room for the records of a batch in order, what is written is all of it
+module _ (b l : List ℕ) {now : List ℕ} {n : ℕ} (e : n ≡ min (length l) (length (roundReaches (updates b)))) (w : now ≡ sets l 0 (roundReaches (updates b))) where
+  pub filled-few : n ≤ length now
+  filled-few = rw (w, length-sets l 0 (roundReaches (updates b))) (omega arith)
+
+  pub filled-whole : batchNumber b ≡ 0 → length l ≡ 4096 → take n now ≡ roundReaches (updates b)
+  filled-whole o h =
+      let few : length (roundReaches (updates b)) ≤ length l = omega (arith, rounds-few (updates b) 0, length-updates b, inOrder b o .few) in
+      let m : n ≡ length (roundReaches (updates b)) = omega arith in
+      rw (m, w) (part-sets-same (roundReaches (updates b)) l 0 (omega arith))

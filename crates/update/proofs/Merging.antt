@@ -15,6 +15,7 @@ use Rattle.card.specs.Layout.{boundary, live}
 use Rattle.card.proofs.Facts.{Facts}
 use Rattle.card.proofs.Live.{live-rising, live-above}
 use Rattle.batch.specs.Batch.{updates, withdrawn, withAdded, batchNumber}
+use Rattle.batch.specs.code.Rounds.{roundReaches}
 use Rattle.batch.specs.code.Search.{lesser, leastAdded, beforeAdded, nextAddition, decided}
 use Rattle.batch.specs.declared.Addition.{Addition}
 use Rattle.batch.specs.declared.Decision.{Decision}
@@ -97,7 +98,7 @@ module _ {c b : List ℕ} {m : Merge} {q : OldCursor} {a : Addition} {x : ℕ} (
     turn-less = rw rest-next (omega arith)
 
     -- what is decided of it, and the place at it
-    module _ (d : Decision) (e : d ≡ decided b (m .decisions) x) where
+    module _ (d : Decision) (e : d ≡ decided b (roundReaches (updates b)) (m .decisions) x) where
       decides : d .withdrawn ≡ withdrawn (updates b) x
       decides = rw e (follows-withdrawn (g .decides) (t .inOrder) x (omega (arith, next-above)) (omega arith))
 
@@ -114,7 +115,7 @@ module _ {c b : List ℕ} {m : Merge} {q : OldCursor} {a : Addition} {x : ℕ} (
             stands = t .skipped .stands;
             olds = sym (above-further (m .rank) x (live c) (omega (arith, next-above))) ∙ ap (above x) (g .olds ∙ sym (t .skipped .next));
             adds = λ j h. further j (omega (arith, next-above));
-            decides = rw e (follows-next (g .decides) x (omega (arith, next-above)));
+            decides = rw e (follows-next (g .decides) (roundReaches (updates b)) x (omega (arith, next-above)));
           }
         where
           -- no further record is passed over than adds nothing above the pair in hand

@@ -7,10 +7,13 @@ ghost use Rattle.pair.specs.Tests.{same};
 ghost use Rattle.card.specs.Layout.{blockSize};
 ghost use Rattle.card.specs.Sound.{judged};
 ghost use Rattle.card.specs.code.Configuration.{put, Ordered};
-ghost use Rattle.batch.specs.Batch.{batchNumber};
+ghost use Rattle.batch.specs.Batch.{updates, batchNumber};
+ghost use Rattle.batch.specs.code.Rounds.{roundReaches};
 ghost use Rattle.update.specs.Step.{step};
 ghost use Rattle.update.specs.Answer.{numberOf, writeOf, freedOf, finishedOf, answerOf};
 ghost use Rattle.update.specs.code.Plan.{Freed, followed, settling, Planned};
+use batch::RECORDS_MOST;
+use batch::rounds;
 use card::layout;
 use card::layout::CONFIGURATION_WORDS;
 use card::layout::Configuration;
@@ -225,13 +228,14 @@ fn plan(card: &[u32], words: &mut [u32], due: Due) -> WritePlan
 }
 
 // Makes the next write of a sound card with a batch in order, in as many words of room as a block has.
-fn advance(card: &mut [u32], batch: &[u32], words: &mut [u32]) -> StepAnswer
+fn advance(card: &mut [u32], batch: &[u32], reaches: &[u32], words: &mut [u32]) -> StepAnswer
     requires { ⌜ judged (now card) ≡ 0 ⌝ }
     requires { ⌜ batchNumber (now batch) ≡ 0 ⌝ }
+    requires { ⌜ now reaches ≡ roundReaches (updates (now batch)) ⌝ }
     requires { ⌜ now words ≡ replicate (blockSize (now card)) 0 ⌝ }
     ensures { λ r. ⌜ (r ≡ answerOf (step (now (card .entry)) (now (batch .entry)))) × (now (card .exit) ≡ step (now (card .entry)) (now (batch .entry)) .card) ⌝ }
 {
-    let due = due::fill(card, batch, words);
+    let due = due::fill(card, batch, reaches, words);
     let plan = plan(card, words, due);
     let start = plan.start;
     let count = plan.count;
@@ -254,5 +258,7 @@ pub fn step(card: &mut [u32], batch: &[u32]) -> StepAnswer
     let k = Configuration::of(card);
     let size = k.size as usize;
     let mut buffer = [0u32; WORDS_MOST];
-    advance(card, batch, &mut buffer[..size])
+    let mut reaches = [0u32; RECORDS_MOST];
+    let rounds = rounds::fill_reaches(batch, &mut reaches);
+    advance(card, batch, &reaches[..rounds], &mut buffer[..size])
 }

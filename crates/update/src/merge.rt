@@ -1,7 +1,8 @@
 // What remains, one pair after the other: the old pairs and the additions above the boundary, less those that the batch withdraws.
 ghost use mathlib.Core.Path.{_≡_};
 ghost use Rattle.card.specs.Sound.{judged};
-ghost use Rattle.batch.specs.Batch.{batchNumber};
+ghost use Rattle.batch.specs.Batch.{updates, batchNumber};
+ghost use Rattle.batch.specs.code.Rounds.{roundReaches};
 ghost use Rattle.batch.specs.code.Search.{lesser};
 ghost use Rattle.update.specs.code.Merge.{Begun, Merges, Merged};
 use crate::old;
@@ -47,10 +48,11 @@ pub(crate) fn start(card: &[u32]) -> Merge
     }
 }
 
-// The next pair.
-pub(crate) fn next(card: &[u32], batch: &[u32], merge: Merge) -> Merge
+// The next pair, with where the batch's rounds reach to.
+pub(crate) fn next(card: &[u32], batch: &[u32], reaches: &[u32], merge: Merge) -> Merge
     requires { ⌜ judged (now card) ≡ 0 ⌝ }
     requires { ⌜ batchNumber (now batch) ≡ 0 ⌝ }
+    requires { ⌜ now reaches ≡ roundReaches (updates (now batch)) ⌝ }
     requires { ⌜ Merges (now card) (now batch) merge ⌝ }
     ensures { λ r. ⌜ Merged (now (card .entry)) (now (batch .entry)) (merge .rank) r ⌝ }
 {
@@ -71,7 +73,7 @@ pub(crate) fn next(card: &[u32], batch: &[u32], merge: Merge) -> Merge
                 decisions,
             };
         }
-        let decision = batch::decide(batch, decisions, rank);
+        let decision = batch::decide(batch, reaches, decisions, rank);
         decisions = decision.cursor;
         if !decision.withdrawn {
             return Merge {

@@ -16,7 +16,7 @@ use Rattle.update.proofs.advance.Statement.{statement}
 use Rattle.update.proofs.advance.Tie as tie
 
 abbrev S : tie.After-fill → tie.Start
-S c = c .before .before .before .before .before .before
+S c = c .before .before .before .before .before .before .before
 
 abbrev F : tie.After-plan → tie.After-fill
 F c = c .before .before .before .before .before
@@ -29,7 +29,7 @@ planned c =
     let s = S f in
     let w = now (s .args .card) in
     let b = now (s .args .batch) in
-    let m = remaining w b (facts w (s .pre .0)) (λ i. omega (arith, f .before .before .before .before .before .slice-known .given i)) (λ i. omega (arith, f .before .before .before .before .shared-slice-known .given i)) (s .pre .1 .0) in
+    let m = remaining w b (facts w (s .pre .0)) (λ i. omega (arith, f .before .before .before .before .before .before .slice-known .given i)) (λ i. omega (arith, f .before .before .before .before .before .shared-slice-known .given i)) (s .pre .1 .0) in
     rw (step-sound w b (s .pre .0) (s .pre .1 .0)) (c .plan .ensures .of (remains w b) (m .proper) (f .fill .ensures))
 
 fill-requires : tie.Need-fill-requires

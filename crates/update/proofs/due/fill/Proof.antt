@@ -22,20 +22,20 @@ use Rattle.update.proofs.due.fill.Statement.{statement}
 use Rattle.update.proofs.due.fill.Tie as tie
 
 abbrev Inv-loop : tie.InvT-loop
-Inv-loop card batch words₀ place₀ packing₀ words place packing = Fills card batch words packing (place .rank) × Merges card batch place
+Inv-loop card batch reaches words₀ place₀ packing₀ words place packing = Fills card batch words packing (place .rank) × Merges card batch place
 
 abbrev μ-loop : tie.MeasureT-loop
-μ-loop card batch words₀ place₀ packing₀ words place packing = length (left card batch (place .rank))
+μ-loop card batch reaches words₀ place₀ packing₀ words place packing = length (left card batch (place .rank))
 
 abbrev S : tie.At-loop Inv-loop μ-loop → tie.Start Inv-loop μ-loop
-S c = c .before .before .before .before .before
+S c = c .before .before .before .before .before .before
 
 -- what remains is pairs, rising
 rest : (c : tie.At-loop Inv-loop μ-loop) → Remaining (now (S c .args .card)) (remains (now (S c .args .card)) (now (S c .args .batch)))
 unfolding Words
 rest c =
     remaining (now (S c .args .card)) (now (S c .args .batch)) (facts (now (S c .args .card)) (S c .pre .0))
-    (λ i. omega (arith, c .before .before .before .before .shared-slice-known .given i)) (λ i. omega (arith, c .before .before .before .shared-slice-known2 .given i)) (S c .pre .1 .0)
+    (λ i. omega (arith, c .before .before .before .before .before .shared-slice-known .given i)) (λ i. omega (arith, c .before .before .before .before .shared-slice-known2 .given i)) (S c .pre .1 .0)
 
 -- whether the pair was put is whether it had room
 done : (c : tie.After-put Inv-loop μ-loop) → let n = c .before .before .before in
@@ -43,18 +43,18 @@ done : (c : tie.After-put Inv-loop μ-loop) → let n = c .before .before .befor
 done c = ap (λ (r : PutAnswer). r .done) (c .put .ensures .1) ∙ put-done _ _ _
 
 kept-length : (c : tie.At-loop Inv-loop μ-loop) → length (c .loop .words) ≡ length (now (S c .args .words))
-kept-length c = c .loop .inv .0 .long ∙ sym (ap length (S c .pre .1 .1) ∙ length-replicate (blockSize (now (S c .args .card))) 0)
+kept-length c = c .loop .inv .0 .long ∙ sym (ap length (S c .pre .1 .1 .1) ∙ length-replicate (blockSize (now (S c .args .card))) 0)
 
 start-requires : tie.Need-start-requires Inv-loop μ-loop
 start-requires c κs = search needs
 
 loop-holds : tie.Need-loop-holds Inv-loop μ-loop
 loop-holds c =
-    let s = c .before .before .before .before in
-    (rw (c .start .ensures .bound) (fills-start _ _ _ (s .pre .1 .1)), merges-begun (facts _ (s .pre .0)) (c .start .ensures))
+    let s = c .before .before .before .before .before in
+    (rw (c .start .ensures .bound) (fills-start _ _ _ (s .pre .1 .1 .1)), merges-begun (facts _ (s .pre .0)) (c .start .ensures))
 
 next-requires : tie.Need-next-requires Inv-loop μ-loop
-next-requires c κs = (S c .pre .0, (S c .pre .1 .0, c .loop .inv .1))
+next-requires c κs = (S c .pre .0, (S c .pre .1 .0, (S c .pre .1 .1 .0, c .loop .inv .1)))
 
 same-length : tie.Need-same-length Inv-loop μ-loop
 same-length c = kept-length (c .before .before)

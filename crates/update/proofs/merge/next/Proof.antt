@@ -8,6 +8,8 @@ use Rattle.pair.specs.Rising.{above}
 use Rattle.card.specs.Layout.{live}
 use Rattle.card.proofs.Facts.{facts}
 use Rattle.batch.specs.Batch.{updates, withAdded}
+use Rattle.batch.specs.code.Rounds.{roundReaches}
+use Rattle.batch.specs.code.Search.{decided}
 use Rattle.update.specs.code.Merge.{Merges, left}
 use Rattle.update.proofs.Merging.{Turn, turn-end, turn-less, turn-kept, turn-withdrawn, turn-merges, merged-end, merged-kept}
 use borrow.Author.Needs.{needs}
@@ -15,14 +17,14 @@ use Rattle.update.proofs.merge.next.Statement.{statement}
 use Rattle.update.proofs.merge.next.Tie as tie
 
 abbrev Inv-loop : tie.InvT-loop
-Inv-loop card batch rank₀ old₀ addition₀ decisions₀ rank old addition decisions =
+Inv-loop card batch reaches rank₀ old₀ addition₀ decisions₀ rank old addition decisions =
     Merges card batch (record { rank = rank; old = old; addition = addition; decisions = decisions }) × (left card batch rank₀ ≡ left card batch rank)
 
 abbrev μ-loop : tie.MeasureT-loop
-μ-loop card batch rank₀ old₀ addition₀ decisions₀ rank old addition decisions = length (above rank (withAdded (updates batch) (live card)))
+μ-loop card batch reaches rank₀ old₀ addition₀ decisions₀ rank old addition decisions = length (above rank (withAdded (updates batch) (live card)))
 
 abbrev S : tie.At-loop Inv-loop μ-loop → tie.Start Inv-loop μ-loop
-S c = c .before .before .before .before .before
+S c = c .before .before .before .before .before .before
 
 -- what a turn has found
 turn :
@@ -39,8 +41,14 @@ turn c =
       pair = c .lesser .ensures;
     }
 
+-- what is decided, with where the rounds reach to
+decided-of :
+    (c : tie.After-decide Inv-loop μ-loop) → let l = c .before .before .before .before .before in
+    c .decide .result ≡ decided (now (S l .args .batch)) (roundReaches (updates (now (S l .args .batch)))) (l .loop .decisions) (c .before .before .lesser .result)
+decided-of c = rw (S (c .before .before .before .before .before) .pre .1 .1 .0) at (c .decide .ensures)
+
 loop-holds : tie.Need-loop-holds Inv-loop μ-loop
-loop-holds c = (c .before .before .before .before .pre .1 .1, refl)
+loop-holds c = (c .before .before .before .before .before .pre .1 .1 .1, refl)
 
 skip-requires : tie.Need-skip-requires Inv-loop μ-loop
 skip-requires c κs = c .loop .inv .0 .stands
@@ -65,7 +73,7 @@ returns-2 c =
     let n = d .before .if1 .left in
     let i = d .before .before .before .before .before .loop .inv in
     let t = turn (d .before .before) in
-    merged-kept n (i .1 ∙ turn-kept (i .0) t n _ (d .decide .ensures) (not-true _ (c .if2 .taken))) (turn-merges (i .0) t n _ (d .decide .ensures))
+    merged-kept n (i .1 ∙ turn-kept (i .0) t n _ (decided-of d) (not-true _ (c .if2 .taken))) (turn-merges (i .0) t n _ (decided-of d))
 
 loop-less : tie.Need-loop-less Inv-loop μ-loop
 loop-less c =
@@ -78,7 +86,7 @@ loop-again c =
     let n = d .before .if1 .left in
     let i = d .before .before .before .before .before .loop .inv in
     let t = turn (d .before .before) in
-    (turn-merges (i .0) t n _ (d .decide .ensures), i .1 ∙ turn-withdrawn (i .0) t n _ (d .decide .ensures) (not-false _ (c .if2 .left)))
+    (turn-merges (i .0) t n _ (decided-of d), i .1 ∙ turn-withdrawn (i .0) t n _ (decided-of d) (not-false _ (c .if2 .left)))
 
 pub next-spec : {M : Type 1} → statement M
 next-spec =
