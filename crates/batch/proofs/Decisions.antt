@@ -70,7 +70,6 @@ any-beyond f x h (u ∷ us) k l e =
     rw (h u (omega arith)) (any-beyond f x h us here (omega arith) (or-right (ltb here k) (falls here us) e))
 
 covers-beyond : (r x : ℕ) (u : Update) → x < rank (u .term) (u .from) → covers r x u ≡ false
-unfolding covers
 covers-beyond r x u l = rw (lt-leb (rank (u .term) (u .from)) x l, and-false (eqb (u .kind) r))
 
 -- a removal of a kind reaches to the pair exactly where one covers it
@@ -108,7 +107,7 @@ reaches r (u ∷ us) x k a e = go (ltb x here) refl (reaches r us x (reachWith r
         let l = ltb-true x here f in
         sym (rw (covers-beyond r x u l, any-beyond (covers r x) x (covers-beyond r x) us here l o) (or-false (leb x k)))
     go false f ih =
-        ih ∙ (unfold reachWith covers in rw (le-leb here x (ltb-false x here f), reach (eqb (u .kind) r) (ltb k high) refl, and-true) (or-assoc (leb x k) _ _))
+        ih ∙ (unfold reachWith in rw (le-leb here x (ltb-false x here f), reach (eqb (u .kind) r) (ltb k high) refl, and-true) (or-assoc (leb x k) _ _))
 
 -- a pair is removed by a record of its term, or its position by one of every term
 any-removes : (x : ℕ) (us : List Update) → anyUpdate (removes x) us ≡ (anyUpdate (covers 2 x) us || anyUpdate (covers 3 (position x)) us)

@@ -1,4 +1,5 @@
 pub mod Annulling
+pub mod Claims
 pub mod Decisions
 pub mod Filling
 pub mod InOrder

@@ -1,3 +1,4 @@
+pub mod Annulled
 pub mod Computed
 pub mod Cuts
 pub mod Demand3
