@@ -5,6 +5,8 @@ use crate::random::Random;
 use crate::second::batch::{Record, ADD, ANNUL, MOST_RECORDS, REMOVE};
 use crate::second::{judge_batch, Configuration, Pair, HIGHEST, LOWEST};
 
+const TOP: u32 = u32::MAX;
+
 /// The terms and positions a test draws from, so that pairs meet often.
 #[derive(Clone, Debug)]
 pub struct Universe {
@@ -275,7 +277,7 @@ impl Stretches {
         Stretches::AtTheEnds,
     ];
 
-    /// So many records, in order, over rising positions, of which there are at least two.
+    /// So many records, in order, at rising positions, of which there are at least two.
     pub fn records(self, random: &mut Random, positions: &[u32], count: usize) -> Vec<Record> {
         let last = positions.len() - 1;
         let mut stretches: Vec<(u32, u32)> = Vec::new();
@@ -335,8 +337,7 @@ impl Stretches {
     }
 }
 
-/// The stretches between positions, below the first and above the last; the highest position alone
-/// where there are none.
+/// The stretches between rising positions, below the first and above the last.
 fn gaps(positions: &[u32]) -> Vec<(u32, u32)> {
     let mut ends = vec![0];
     ends.extend_from_slice(positions);
@@ -346,8 +347,8 @@ fn gaps(positions: &[u32]) -> Vec<(u32, u32)> {
         .map(|two| (two[0] + 1, two[1] - 1))
         .collect();
     let last = positions[positions.len() - 1];
-    if last < TOP || gaps.is_empty() {
-        gaps.push((last.saturating_add(1), TOP));
+    if last < TOP {
+        gaps.push((last + 1, TOP));
     }
     gaps
 }
@@ -398,8 +399,6 @@ pub const WRONG_ANNULMENTS: [(&[u32], u32); 32] = [
     (&[1, 5, 2, 2, 3, 4, 2, 2], 6),
     (&[1, 5, 2, 2, 3, 0, 1, 9, 2, 0, 1, 9], 6),
 ];
-
-const TOP: u32 = u32::MAX;
 
 /// A batch that is judged 6 or 7.
 pub fn bad(random: &mut Random, universe: &Universe) -> Vec<u32> {
