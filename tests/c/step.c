@@ -265,24 +265,33 @@ static void annulled(void) {
     step_to(case1(), BATCH(ANNUL(2, 9)), (struct answer){0, 3, 1, 1}, empty, group, "no further than they go");
     lands(case1(), BATCH(ANNUL(1, 1), ANNUL(3, 3), ANNUL(5, 8), ANNUL(10, UINT32_MAX)), 1, BLOCK_1, next, 1, 1,
           "annulled: beside and between the positions");
+    lands(case1(), BATCH(ANNUL(65536 + 1, 65536 + 9)), 1, BLOCK_1, next, 1, 1, "annulled: far above the positions");
     lands(case1(), BATCH(ANNUL(2, 4)), 1, high, next, 1, 1, "annulled: both ends belong to it");
     lands(case1(), BATCH(ANNUL(4, 9)), 1, low, next, 1, 1, "annulled: up to the last position");
     lands(case1(), BATCH(ANNUL(3, 8)), 1, both, next, 1, 1, "annulled: inside another term's positions");
     lands(case1(), BATCH(ANNUL(4, 4)), 1, both, next, 1, 1, "annulled: one position");
     lands(case1(), BATCH(ANNUL(1, 8), ANNUL(2, 2)), 1, high, next, 1, 1, "annulled: a wide one over a narrow one");
+    step_to(case1(), BATCH(ANNUL(1, UINT32_MAX), ANNUL(2, 2)), (struct answer){0, 3, 1, 1}, empty, group,
+            "the widest over a narrow one");
+    step_to(case1(), BATCH(ANNUL(1, 20), ANNUL(3, 8), ANNUL(4, 5)), (struct answer){0, 3, 1, 1}, empty, group,
+            "each inside the one before");
     lands(case1(), BATCH(ANNUL(2, 2), ANNUL(2, 4), ANNUL(2, 3)), 1, high, next, 1, 1, "annulled: equal starts");
     lands(case1(), BATCH(ANNUL(2, 3), ANNUL(9, 9)), 1, WORDS_8(7, 1, 4, 0, 0, 0, 0, 0), next, 1, 1,
           "annulled: a gap between two");
     lands(case1(), BATCH(ANNUL(4, 4), REMOVE(5, 9, 9)), 1, low, next, 1, 1, "annulled: beside a removal");
     lands(case1(), BATCH(ANNUL(1, 9), REMOVE(5, 1, 9), ADD(5, 9)), 1, high, next, 1, 1,
           "annulled, removed and added: it is in");
+    lands(case1(), BATCH(ANNUL(1, 9), ADD(5, 9), ADD(7, 4)), 1, WORDS_8(5, 1, 9, 7, 1, 4, 0, 0), next, 1, 1,
+          "annulled: additions under two terms stay");
+    lands(case1(), BATCH(ANNUL(9, 9), ADD(5, 1)), 1, WORDS_8(5, 2, 1, 2, 7, 1, 4, 0), next, 1, 1,
+          "annulled: an addition that starts lower");
     lands(case1(), BATCH(ANNUL(1, 9), ADD(6, 3)), 1, WORDS_8(6, 1, 3, 0, 0, 0, 0, 0), next, 1, 1,
           "annulled: an addition of a pair that was not there");
     lands(case3_open(), BATCH(ANNUL(1, 9), ADD(8, 1)), 2, WORDS_8(8, 1, 1, 0, 0, 0, 0, 0),
           WORDS_8(1, 8, 4, 1, 2, 0, 0, 0), 0, 1, "annulled in mid-pass: pairs up to the boundary stay");
 
-    struct card ends = WITH(CARD(1, 8, 4, 0, 1, 0, 0, 0), 0, 1, 2, 1, UINT32_MAX, 2, 1, UINT32_MAX, 0);
-    lands(ends, BATCH(ANNUL(1, 1)), 1, WORDS_8(1, 1, UINT32_MAX, 2, 1, UINT32_MAX, 0, 0), next, 1, 1,
+    struct card ends = WITH(CARD(1, 8, 4, 0, 1, 0, 0, 0), 0, 1, 2, 1, UINT32_MAX, UINT32_MAX, 1, UINT32_MAX, 0);
+    lands(ends, BATCH(ANNUL(1, 1)), 1, WORDS_8(1, 1, UINT32_MAX, UINT32_MAX, 1, UINT32_MAX, 0, 0), next, 1, 1,
           "annulled: the lowest position");
     lands(ends, BATCH(ANNUL(UINT32_MAX, UINT32_MAX)), 1, WORDS_8(1, 1, 1, 0, 0, 0, 0, 0), next, 1, 1,
           "annulled: the highest position");
@@ -291,6 +300,9 @@ static void annulled(void) {
           "annulled: the next term begins lower");
     lands(falls, BATCH(ANNUL(1, 1), ANNUL(5, 8)), 1, WORDS_8(1, 1, 9, 0, 0, 0, 0, 0), next, 1, 1,
           "annulled: only where the next term begins");
+    falls = WITH(falls, 0, 1, 1, 9, 2, 1, 3, 0, 0);
+    lands(falls, BATCH(ANNUL(1, 1), ANNUL(5, 5), ANNUL(8, 8)), 1, WORDS_8(1, 1, 9, 2, 1, 3, 0, 0), next, 1, 1,
+          "annulled: the next term begins in a gap");
 
     uint32_t many[GI_BATCH_RECORDS_MAX * GI_RECORD_WORDS];
     for (size_t i = 0; i < GI_BATCH_RECORDS_MAX; i++)
