@@ -321,7 +321,10 @@ fn step_with_the_longest_batches() {
     let mut steps = Steps::new();
     let universe = Universe::wide(4000);
     for (b, n) in [(8, 4), (64, 100), (1024, 3)] {
-        let card = cards::stepped(&mut random, b, n);
+        let card = match b {
+            8 => second_full_card(&mut random),
+            _ => cards::stepped(&mut random, b, n),
+        };
         let most = exactly(&mut random, &universe, 4096);
         let same = batches::words(vec![addition(7, 7)]).repeat(4096);
         let removing = batches::words(vec![removal(7, 7, TOP)]).repeat(4095);
@@ -527,7 +530,7 @@ fn step_through_passes_of_removals() {
     let mut random = Random::new(27);
     let mut steps = Steps::new();
     let mut stopped_with_one_free = 0;
-    for _ in 0..3000 {
+    for _ in 0..6000 {
         let b = random.pick(&[8, 8, 9, 10, 12]);
         let n = random.pick(&[3, 4, 5, 6, 8]);
         let mut card = cards::loose(&mut random, b, n);
