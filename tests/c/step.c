@@ -1,5 +1,6 @@
-/* Tests of gi_step: the small cases with every figure, passes around the circle,
- * the batch's limits, and the refusals. And of gi_write_span, after each step. */
+/* Tests of gi_step: the small cases with every figure, annulled rounds, passes
+ * around the circle, the batch's limits, and the refusals. And of gi_write_span,
+ * after each step. */
 #include "small_cards.h"
 
 /* What a step answers. */
@@ -15,6 +16,7 @@ struct answer {
 #define NO_RECORDS (const uint32_t[]){UNUSED}, 0
 #define ADD(term, position) GI_RECORD_ADD, term, position, position
 #define REMOVE(term, from, to) GI_RECORD_REMOVE, term, from, to
+#define ANNUL(from, to) GI_RECORD_ANNUL, 0, from, to
 
 /* Sees that a write stands at count words from start on in a card. */
 static void span_is(const uint32_t *card, size_t length, uint32_t write, uint32_t number, size_t start, size_t count,
@@ -231,6 +233,121 @@ static void batches(void) {
           "4,096 repeats");
 }
 
+/* ---- removals under every term */
+
+/* The round at positions 3 to 9 stood under three terms. It goes, but for the
+ * game at 9 under term 7, which the batch adds. */
+static void annulled_round(void) {
+    struct card card = WITH(CARD(1, 8, 4, 0, 2, 0, 0, 0), 0, 5, 2, 2, 9, 7, 1, 4, 0);
+    card = WITH(card, 1, 7, 1, 9, 9, 2, 3, 10, 0);
+    card = lands(card, BATCH(ANNUL(3, 9), ADD(7, 9)), 2, WORDS_8(5, 1, 2, 7, 1, 9, 0, 0),
+                 WORDS_8(1, 8, 4, 1, 1, 1, 7, 9), 1, 0, "an annulled round");
+    card = lands(card, BATCH(ANNUL(3, 9), ADD(7, 9)), 3, WORDS_8(9, 1, 10, 0, 0, 0, 0, 0),
+                 WORDS_8(1, 8, 4, 2, 2, 0, 0, 0), 1, 1, "an annulled round, the last block");
+    struct card again = block_written(card, 0, WORDS_8(5, 1, 2, 7, 1, 9, 0, 0));
+    step_to(card, BATCH(ANNUL(3, 9), ADD(7, 9)), (struct answer){0, 1, 0, 0}, again, "an annulled round", "once more");
+    step_to(again, BATCH(ANNUL(3, 9), ADD(7, 9)), (struct answer){0, 3, 1, 0},
+            configured(again, WORDS_8(1, 8, 4, 3, 1, 1, 7, 9)), "an annulled round", "its map entry was there");
+    step_to(card, BATCH(ANNUL(1, UINT32_MAX)), (struct answer){0, 3, 2, 1},
+            configured(card, WORDS_8(1, 8, 4, 0, 0, 0, 0, 0)), "an annulled round", "all the rest goes in one step");
+}
+
+static void annulled(void) {
+    const char *group = "annulled";
+    struct card fresh = CARD(1, 8, 4, 0, 0, 0, 0, 0);
+    struct card empty = configured(case1(), WORDS_8(1, 8, 4, 1, 0, 0, 0, 0));
+    const uint32_t *next = WORDS_8(1, 8, 4, 1, 1, 0, 0, 0);
+    const uint32_t *low = WORDS_8(5, 1, 2, 0, 0, 0, 0, 0);
+    const uint32_t *high = WORDS_8(5, 1, 9, 0, 0, 0, 0, 0);
+    const uint32_t *both = WORDS_8(5, 2, 2, 9, 0, 0, 0, 0);
+    step_to(fresh, BATCH(ANNUL(1, 9)), (struct answer){0, 3, 0, 1}, fresh, group, "no pairs");
+    step_to(case1(), BATCH(ANNUL(1, UINT32_MAX)), (struct answer){0, 3, 1, 1}, empty, group, "all of them");
+    step_to(case1(), BATCH(ANNUL(2, 9)), (struct answer){0, 3, 1, 1}, empty, group, "no further than they go");
+    lands(case1(), BATCH(ANNUL(1, 1), ANNUL(3, 3), ANNUL(5, 8), ANNUL(10, UINT32_MAX)), 1, BLOCK_1, next, 1, 1,
+          "annulled: beside and between the positions");
+    lands(case1(), BATCH(ANNUL(65536 + 1, 65536 + 9)), 1, BLOCK_1, next, 1, 1, "annulled: far above the positions");
+    lands(case1(), BATCH(ANNUL(2, 4)), 1, high, next, 1, 1, "annulled: both ends belong to it");
+    lands(case1(), BATCH(ANNUL(4, 9)), 1, low, next, 1, 1, "annulled: up to the last position");
+    lands(case1(), BATCH(ANNUL(3, 8)), 1, both, next, 1, 1, "annulled: inside another term's positions");
+    lands(case1(), BATCH(ANNUL(4, 4)), 1, both, next, 1, 1, "annulled: one position");
+    lands(case1(), BATCH(ANNUL(1, 8), ANNUL(2, 2)), 1, high, next, 1, 1, "annulled: a wide one over a narrow one");
+    step_to(case1(), BATCH(ANNUL(1, UINT32_MAX), ANNUL(2, 2)), (struct answer){0, 3, 1, 1}, empty, group,
+            "the widest over a narrow one");
+    step_to(case1(), BATCH(ANNUL(1, 20), ANNUL(3, 8), ANNUL(4, 5)), (struct answer){0, 3, 1, 1}, empty, group,
+            "each inside the one before");
+    lands(case1(), BATCH(ANNUL(2, 2), ANNUL(2, 4), ANNUL(2, 3)), 1, high, next, 1, 1, "annulled: equal starts");
+    lands(case1(), BATCH(ANNUL(2, 3), ANNUL(9, 9)), 1, WORDS_8(7, 1, 4, 0, 0, 0, 0, 0), next, 1, 1,
+          "annulled: a gap between two");
+    lands(case1(), BATCH(ANNUL(4, 4), REMOVE(5, 9, 9)), 1, low, next, 1, 1, "annulled: beside a removal");
+    lands(case1(), BATCH(ANNUL(1, 9), REMOVE(5, 1, 9), ADD(5, 9)), 1, high, next, 1, 1,
+          "annulled, removed and added: it is in");
+    lands(case1(), BATCH(ANNUL(1, 9), ADD(5, 9), ADD(7, 4)), 1, WORDS_8(5, 1, 9, 7, 1, 4, 0, 0), next, 1, 1,
+          "annulled: additions under two terms stay");
+    lands(case1(), BATCH(ANNUL(9, 9), ADD(5, 1)), 1, WORDS_8(5, 2, 1, 2, 7, 1, 4, 0), next, 1, 1,
+          "annulled: an addition that starts lower");
+    lands(case1(), BATCH(ANNUL(1, 9), ADD(6, 3)), 1, WORDS_8(6, 1, 3, 0, 0, 0, 0, 0), next, 1, 1,
+          "annulled: an addition of a pair that was not there");
+    lands(case3_open(), BATCH(ANNUL(1, 9), ADD(8, 1)), 2, WORDS_8(8, 1, 1, 0, 0, 0, 0, 0),
+          WORDS_8(1, 8, 4, 1, 2, 0, 0, 0), 0, 1, "annulled in mid-pass: pairs up to the boundary stay");
+
+    struct card ends = WITH(CARD(1, 8, 4, 0, 1, 0, 0, 0), 0, 1, 2, 1, UINT32_MAX, UINT32_MAX, 1, UINT32_MAX, 0);
+    lands(ends, BATCH(ANNUL(1, 1)), 1, WORDS_8(1, 1, UINT32_MAX, UINT32_MAX, 1, UINT32_MAX, 0, 0), next, 1, 1,
+          "annulled: the lowest position");
+    lands(ends, BATCH(ANNUL(UINT32_MAX, UINT32_MAX)), 1, WORDS_8(1, 1, 1, 0, 0, 0, 0, 0), next, 1, 1,
+          "annulled: the highest position");
+    struct card falls = WITH(CARD(1, 8, 4, 0, 1, 0, 0, 0), 0, 1, 1, 9, 2, 1, 1, 0, 0);
+    lands(falls, BATCH(ANNUL(9, 9)), 1, WORDS_8(2, 1, 1, 0, 0, 0, 0, 0), next, 1, 1,
+          "annulled: the next term begins lower");
+    lands(falls, BATCH(ANNUL(1, 1), ANNUL(5, 8)), 1, WORDS_8(1, 1, 9, 0, 0, 0, 0, 0), next, 1, 1,
+          "annulled: only where the next term begins");
+    falls = WITH(falls, 0, 1, 1, 9, 2, 1, 3, 0, 0);
+    lands(falls, BATCH(ANNUL(1, 1), ANNUL(5, 5), ANNUL(8, 8)), 1, WORDS_8(1, 1, 9, 2, 1, 3, 0, 0), next, 1, 1,
+          "annulled: the next term begins in a gap");
+
+    uint32_t many[GI_BATCH_RECORDS_MAX * GI_RECORD_WORDS];
+    for (size_t i = 0; i < GI_BATCH_RECORDS_MAX; i++)
+        memcpy(many + i * GI_RECORD_WORDS, (const uint32_t[]){ANNUL(3, 3)}, GI_RECORD_WORDS * sizeof(uint32_t));
+    lands(case1(), many, sizeof many / sizeof *many, 1, BLOCK_1, next, 1, 1, "annulled: 4,096 repeats");
+    many[3] = 8;
+    lands(case1(), many, sizeof many / sizeof *many, 1, both, next, 1, 1, "annulled: the first of 4,096");
+    many[3] = 3;
+    memcpy(many + sizeof many / sizeof *many - 2, (const uint32_t[]){9, 9}, 2 * sizeof(uint32_t));
+    lands(case1(), many, sizeof many / sizeof *many, 1, WORDS_8(5, 1, 2, 7, 1, 4, 0, 0), next, 1, 1,
+          "annulled: the last of 4,096");
+}
+
+/* Every second position of a term over 1,023 blocks goes, by 4,096 records. */
+static void annulled_largest(void) {
+    const char *group = "annulled on the largest card";
+    enum { LEFT = 511 };
+    static uint32_t batch[GI_BATCH_RECORDS_MAX * GI_RECORD_WORDS];
+    for (uint32_t i = 0; i < GI_BATCH_RECORDS_MAX; i++)
+        memcpy(batch + i * GI_RECORD_WORDS, (const uint32_t[]){ANNUL(2 * i + 1, 2 * i + 1)},
+               GI_RECORD_WORDS * sizeof(uint32_t));
+    uint32_t *card = largest_card(LARGEST_LIVE);
+    check(card != NULL, group, "memory for the card");
+    if (card == NULL)
+        return;
+    for (uint32_t i = 1; i <= 3; i++) {
+        struct answer got = {UNUSED, UNUSED, UNUSED, UNUSED};
+        got.number = gi_step(card, GI_CARD_WORDS_MAX, batch, sizeof batch / sizeof *batch, &got.write, &got.freed,
+                             &got.finished);
+        check_number(got.number, GI_DONE, group, "number");
+        check_number(got.write, i, group, "write");
+        check_number(got.freed, i == 3 ? LARGEST_LIVE : 0, group, "freed");
+        check_number(got.finished, i == 3, group, "finished");
+    }
+    check(memcmp(card, WORDS_8(1, 1024, 1024, 999, 1, 0, 0, 0), GI_CONFIG_WORDS * sizeof(uint32_t)) == 0, group,
+          "the configuration in the end");
+    const uint32_t *block = largest_block(card, LARGEST_LIVE);
+    bool left = block[0] == 1 && block[1] == LEFT;
+    for (uint32_t i = 0; i < 1022; i++)
+        left = left && block[2 + i] == (i < LEFT ? 2 * i + 2 : 0);
+    check(left, group, "every second position is left");
+    check_number(gi_judge(card, GI_CARD_WORDS_MAX), GI_DONE, group, "sound");
+    free(card);
+}
+
 static void circle(void) {
     struct card card = lands(wrapped(), NO_RECORDS, 2, WORDS_8(2, 1, 5, 3, 1, 1, 0, 0), WORDS_8(1, 8, 4, 0, 1, 2, 3, 1),
                              1, 0, "around the circle");
@@ -280,15 +397,23 @@ static void largest(void) {
 
 /* ---- refusals */
 
+/* A card with one place free, each block full of one term. */
+static struct card full(void) {
+    struct card card = WITH(CARD(1, 8, 4, 2, 3, 0, 0, 0), 2, 1, 6, 10, 20, 30, 40, 50, 60);
+    return WITH(WITH(card, 3, 2, 6, 1, 2, 3, 4, 5, 6), 0, 3, 6, 1, 2, 3, 4, 5, 6);
+}
+
 static void wrong_records(void) {
     const char *group = "number 6";
     static const uint32_t good[] = {ADD(5, 3), ADD(6, 1), ADD(7, 1)};
     for (size_t length = 1; length < sizeof good / sizeof *good; length++)
         if (length % GI_RECORD_WORDS != 0)
             step_refused(case1(), good, length, 6, group, "a length that is no records");
-    static const uint32_t kinds[] = {0, 3, 4, 256, 65537, UINT32_MAX};
-    for (size_t i = 0; i < sizeof kinds / sizeof *kinds; i++)
+    static const uint32_t kinds[] = {0, 4, 5, 256, 65537, 65539, UINT32_MAX};
+    for (size_t i = 0; i < sizeof kinds / sizeof *kinds; i++) {
         step_refused(case1(), BATCH(ADD(5, 3), kinds[i], 6, 1, 1), 6, group, "a kind that is none");
+        step_refused(case1(), BATCH(kinds[i], 0, 1, 1), 6, group, "a kind that is none, term 0");
+    }
     step_refused(case1(), BATCH(ADD(0, 3)), 6, group, "an addition with term 0");
     step_refused(case1(), BATCH(ADD(5, 0)), 6, group, "an addition of position 0");
     step_refused(case1(), BATCH(REMOVE(0, 1, 3)), 6, group, "a removal with term 0");
@@ -306,6 +431,42 @@ static void wrong_records(void) {
         memcpy(many + i * GI_RECORD_WORDS, (const uint32_t[]){ADD(8, i + 1)}, GI_RECORD_WORDS * sizeof(uint32_t));
     step_refused(case1(), many, sizeof many / sizeof *many, 6, group, "4,097 records");
     step_refused(case1(), many, sizeof many / sizeof *many - 3, 6, group, "4,096 records and a word");
+    memcpy(many, (const uint32_t[]){ANNUL(1, 9)}, GI_RECORD_WORDS * sizeof(uint32_t));
+    step_refused(case1(), many, sizeof many / sizeof *many, 6, group, "4,097 records, one of them annuls");
+    for (uint32_t i = 0; i <= GI_BATCH_RECORDS_MAX; i++)
+        memcpy(many + i * GI_RECORD_WORDS, (const uint32_t[]){ANNUL(i + 1, i + 1)}, GI_RECORD_WORDS * sizeof(uint32_t));
+    step_refused(case1(), many, sizeof many / sizeof *many, 6, group, "4,097 records that annul");
+}
+
+static void wrong_annulments(void) {
+    const char *group = "number 6, annulled";
+    static const uint32_t terms[] = {1, 5, 7, UINT32_MAX};
+    for (size_t i = 0; i < sizeof terms / sizeof *terms; i++) {
+        step_refused(case1(), BATCH(GI_RECORD_ANNUL, terms[i], 1, 9), 6, group, "with a term");
+        step_refused(case1(), BATCH(ANNUL(1, 9), GI_RECORD_ANNUL, terms[i], 1, 9), 6, group, "the second with a term");
+    }
+    step_refused(case1(), BATCH(GI_RECORD_ADD, 0, 2, 2), 6, group, "an addition with term 0");
+    step_refused(case1(), BATCH(GI_RECORD_REMOVE, 0, 2, 9), 6, group, "a removal with term 0");
+    step_refused(case1(), BATCH(ANNUL(1, 9), ADD(0, 2)), 6, group, "an addition with term 0 behind");
+    step_refused(case1(), BATCH(ANNUL(1, 9), REMOVE(0, 1, 9)), 6, group, "a removal with term 0 behind");
+    step_refused(case1(), BATCH(ANNUL(0, 9)), 6, group, "from 0");
+    step_refused(case1(), BATCH(ANNUL(9, 0)), 6, group, "to 0");
+    step_refused(case1(), BATCH(ANNUL(0, 0)), 6, group, "from 0 to 0");
+    step_refused(case1(), BATCH(ANNUL(9, 8)), 6, group, "from above to");
+    step_refused(case1(), BATCH(ANNUL(UINT32_MAX, 1)), 6, group, "from the highest to the lowest");
+    step_refused(case1(), BATCH(ANNUL(1, 9), ANNUL(2, 1), ADD(5, 3)), 6, group, "one in the middle");
+    step_refused(case1(), BATCH(ADD(5, 3), ANNUL(2, 1)), 6, group, "6 before 7");
+    step_refused(case1(), BATCH(ANNUL(3, 9), ANNUL(2, 9), GI_RECORD_ANNUL, 5, 2, 9), 6, group, "6 before 7");
+    step_refused(full(), BATCH(ANNUL(8, 7), ADD(1, 15)), 6, group, "6 before 8");
+
+    group = "number 7, annulled";
+    step_refused(case1(), BATCH(ADD(5, 3), ANNUL(1, 9)), 7, group, "behind a term");
+    step_refused(case1(), BATCH(ADD(1, 1), ANNUL(1, 1)), 7, group, "behind the lowest term");
+    step_refused(case1(), BATCH(REMOVE(UINT32_MAX, 1, 9), ANNUL(9, 9)), 7, group, "behind the highest term");
+    step_refused(case1(), BATCH(ANNUL(1, 9), ADD(5, 3), ANNUL(1, 9)), 7, group, "on both sides of a term");
+    step_refused(case1(), BATCH(ANNUL(3, 9), ANNUL(2, 9)), 7, group, "starts that fall");
+    step_refused(case1(), BATCH(ANNUL(3, 9), ANNUL(2, 9), ADD(5, 3)), 7, group, "starts that fall, then a term");
+    step_refused(full(), BATCH(ADD(1, 15), ANNUL(1, 1)), 7, group, "7 before 8");
 }
 
 static void wrong_order(void) {
@@ -318,17 +479,12 @@ static void wrong_order(void) {
     step_refused(case1(), BATCH(ADD(UINT32_MAX, 1), ADD(1, 1)), 7, group, "from the highest term to the lowest");
 }
 
-/* A card with one place free, each block full of one term. */
-static struct card full(void) {
-    struct card card = WITH(CARD(1, 8, 4, 2, 3, 0, 0, 0), 2, 1, 6, 10, 20, 30, 40, 50, 60);
-    return WITH(WITH(card, 3, 2, 6, 1, 2, 3, 4, 5, 6), 0, 3, 6, 1, 2, 3, 4, 5, 6);
-}
-
 static void full_cards(void) {
     const char *group = "number 8";
     step_refused(full(), BATCH(ADD(1, 15)), 8, group, "the due block frees no place");
     step_refused(full(), BATCH(ADD(1, 1), REMOVE(2, 1, 9), REMOVE(3, 1, 9)), 8, group, "whatever comes after it");
     step_refused(full(), BATCH(REMOVE(1, 60, 60)), 8, group, "an old block whose last pair is removed");
+    step_refused(full(), BATCH(ANNUL(60, 60)), 8, group, "an old block whose last pair is annulled");
     struct card card = WITH(CARD(1, 8, 4, 1, 0, 3, 3, 1), 1, 1, 1, 1, 0, 0, 0, 0, 0);
     card = WITH(WITH(card, 2, 2, 1, 1, 0, 0, 0, 0, 0), 3, 3, 1, 1, 0, 0, 0, 0, 0);
     step_refused(card, BATCH(ADD(4, 1)), 8, group, "where the pass would finish");
@@ -337,6 +493,11 @@ static void full_cards(void) {
 
     lands(full(), NO_RECORDS, 1, WORDS_8(1, 6, 10, 20, 30, 40, 50, 60), WORDS_8(1, 8, 4, 3, 2, 1, 1, 60), 1, 0,
           "a full card with no records");
+    struct card two_free = configured(full(), WORDS_8(1, 8, 4, 2, 2, 0, 0, 0));
+    two_free = lands(two_free, BATCH(ANNUL(60, 60)), 0, WORDS_8(1, 5, 10, 20, 30, 40, 50, 0),
+                     WORDS_8(1, 8, 4, 2, 2, 1, 1, 50), 0, 0, "annulled with two places free");
+    lands(two_free, BATCH(ANNUL(60, 60)), 1, WORDS_8(2, 6, 1, 2, 3, 4, 5, 6), WORDS_8(1, 8, 4, 0, 2, 0, 0, 0), 2, 1,
+          "annulled with two places free, the last block");
     lands(full(), BATCH(REMOVE(1, 20, 60), REMOVE(2, 1, 9), REMOVE(3, 1, 6)), 1, WORDS_8(1, 1, 10, 0, 0, 0, 0, 0),
           WORDS_8(1, 8, 4, 1, 1, 0, 0, 0), 3, 1, "a full card, all freed at the end");
 }
@@ -350,6 +511,7 @@ static void wrong_cards(void) {
     step_refused(changed(card, GI_CONFIG_PLACES, 1), BATCH(0, 0, 0), 3, group, "number 3");
     step_refused(changed(card, GI_CONFIG_OLD_LENGTH, 4), BATCH(ADD(7, 1), ADD(5, 1)), 3, group, "number 3");
     step_refused(changed(card, map_word(0, 1), 3), BATCH(0, 0, 0), 4, group, "number 4");
+    step_refused(changed(card, map_word(0, 1), 3), BATCH(ANNUL(2, 1)), 4, group, "number 4 before 6");
     step_refused(changed(card, map_word(0, 1), 3), BATCH_1, 4, group, "number 4, a good batch");
 }
 
@@ -379,9 +541,13 @@ void test_step(void) {
     case_4();
     cases_5_6();
     batches();
+    annulled_round();
+    annulled();
     circle();
     largest();
+    annulled_largest();
     wrong_records();
+    wrong_annulments();
     wrong_order();
     full_cards();
     wrong_cards();

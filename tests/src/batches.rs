@@ -2,8 +2,10 @@
 
 use crate::cards;
 use crate::random::Random;
-use crate::second::batch::{Record, ADD, MOST_RECORDS, REMOVE};
+use crate::second::batch::{Record, ADD, ANNUL, MOST_RECORDS, REMOVE};
 use crate::second::{judge_batch, Configuration, Pair, HIGHEST, LOWEST};
+
+const TOP: u32 = u32::MAX;
 
 /// The terms and positions a test draws from, so that pairs meet often.
 #[derive(Clone, Debug)]
@@ -72,6 +74,7 @@ fn drawn(random: &mut Random, count: usize) -> Vec<u32> {
     (0..count).map(|_| random.within(1, u32::MAX)).collect()
 }
 
+/// What a batch does. Removals are of one term's positions or, a few of them, of every term's.
 #[derive(Clone, Copy, Debug, PartialEq, Eq)]
 pub enum Mixture {
     Additions,
@@ -88,6 +91,16 @@ impl Mixture {
             Mixture::Both,
             Mixture::Removals,
         ])
+    }
+
+    /// How many records remove under every term: none in half of the batches that remove at all,
+    /// else a few, so that others still have something to do.
+    fn annulments(self, random: &mut Random) -> usize {
+        if self == Mixture::Additions || random.chance(1, 2) {
+            0
+        } else {
+            1 + random.below(3)
+        }
     }
 }
 
@@ -109,6 +122,20 @@ pub fn removal(term: u32, from: u32, to: u32) -> Record {
     }
 }
 
+pub fn annulment(from: u32, to: u32) -> Record {
+    Record {
+        kind: ANNUL,
+        term: 0,
+        from,
+        to,
+    }
+}
+
+/// Whether a batch that is judged 0 removes under every term.
+pub fn annuls(batch: &[u32]) -> bool {
+    batch.first() == Some(&ANNUL)
+}
+
 /// The records as words, put in order; of equal ones the earlier stays first.
 pub fn words(mut records: Vec<Record>) -> Vec<u32> {
     records.sort_by_key(|record| (record.term, record.from));
@@ -118,8 +145,20 @@ pub fn words(mut records: Vec<Record>) -> Vec<u32> {
 /// A batch that is judged 0.
 pub fn good(random: &mut Random, universe: &Universe, mixture: Mixture, most: usize) -> Vec<u32> {
     let count = random.below(most + 1);
+    let annulments = mixture.annulments(random);
     let mut records = Vec::new();
-    for _ in 0..count {
+    for at in 0..count {
+        if at < annulments {
+            let (from, to) = if random.chance(1, 2) {
+                universe.range(random)
+            } else {
+                let position = universe.position(random);
+                let beside = beside(random, position);
+                (position.min(beside), position)
+            };
+            records.push(annulment(from, to));
+            continue;
+        }
         let adds = match mixture {
             Mixture::Additions => true,
             Mixture::Removals => false,
@@ -142,8 +181,9 @@ pub fn good(random: &mut Random, universe: &Universe, mixture: Mixture, most: us
 /// of blocks, at the boundary, at old pairs that are no longer live, at the bounds of all pairs.
 pub fn near(random: &mut Random, card: &[u32], mixture: Mixture, most: usize) -> Vec<u32> {
     let known = known_pairs(card);
+    let annulments = mixture.annulments(random);
     let mut records = Vec::new();
-    for _ in 0..random.below(most + 1) {
+    for at in 0..random.below(most + 1) {
         let (mut term, position) = random.pick(&known);
         if random.chance(1, 8) {
             term = beside(random, term);
@@ -158,15 +198,17 @@ pub fn near(random: &mut Random, card: &[u32], mixture: Mixture, most: usize) ->
             Mixture::Removals => false,
             Mixture::Both => random.chance(1, 2),
         };
-        if adds {
+        let to = match random.below(5) {
+            0 => from,
+            1 => from.saturating_add(1),
+            2 => u32::MAX,
+            _ => random.pick(&known).1.max(from),
+        };
+        if at < annulments {
+            records.push(annulment(from, to));
+        } else if adds {
             records.push(addition(term, from));
         } else {
-            let to = match random.below(5) {
-                0 => from,
-                1 => from.saturating_add(1),
-                2 => u32::MAX,
-                _ => random.pick(&known).1.max(from),
-            };
             records.push(removal(term, from, to));
         }
     }
@@ -195,6 +237,169 @@ fn known_pairs(card: &[u32]) -> Vec<Pair> {
     known
 }
 
+/// How the stretches that a batch removes under every term lie, to each other and to the positions
+/// that matter.
+#[derive(Clone, Copy, Debug, PartialEq, Eq)]
+pub enum Stretches {
+    /// One position or two.
+    Narrow,
+    /// From any position to any other.
+    Wide,
+    /// Each starts inside the one before and ends behind it.
+    Overlapping,
+    /// Each inside the one before.
+    Nested,
+    /// One and the same.
+    Equal,
+    /// A few starts with many ends in any order.
+    EqualStarts,
+    /// A wide one, then narrow ones inside it and some behind.
+    WideBeforeNarrow,
+    /// From behind one position up to the next one, or to just before it.
+    Adjacent,
+    /// Between two positions, and touching none.
+    Between,
+    /// From the lowest position on, and up to the highest.
+    AtTheEnds,
+}
+
+impl Stretches {
+    pub const EVERY: [Stretches; 10] = [
+        Stretches::Narrow,
+        Stretches::Wide,
+        Stretches::Overlapping,
+        Stretches::Nested,
+        Stretches::Equal,
+        Stretches::EqualStarts,
+        Stretches::WideBeforeNarrow,
+        Stretches::Adjacent,
+        Stretches::Between,
+        Stretches::AtTheEnds,
+    ];
+
+    /// So many records, in order, at rising positions, of which there are at least two.
+    pub fn records(self, random: &mut Random, positions: &[u32], count: usize) -> Vec<Record> {
+        let last = positions.len() - 1;
+        let mut stretches: Vec<(u32, u32)> = Vec::new();
+        let equal = drawn_stretch(random, positions);
+        let gaps = gaps(positions);
+        let starts = [
+            positions[0],
+            random.pick(positions),
+            positions[last / 2],
+            random.pick(positions),
+        ];
+        for at in 0..count {
+            // Of the positions, as far along as this record is among the records.
+            let along = at * positions.len() / count;
+            let next = positions[(along + 1).min(last)];
+            let from = positions[along];
+            stretches.push(match self {
+                Stretches::Narrow => {
+                    let position = random.pick(positions);
+                    (position, position.saturating_add(random.below(2) as u32))
+                }
+                Stretches::Wide => drawn_stretch(random, positions),
+                Stretches::Overlapping => {
+                    let reach = 1 + random.below(2) + positions.len() / 16;
+                    (from, positions[(along + reach).min(last)])
+                }
+                Stretches::Nested => (positions[along / 2], positions[last - along / 2]),
+                Stretches::Equal => equal,
+                Stretches::EqualStarts => (random.pick(&starts), random.pick(positions)),
+                Stretches::WideBeforeNarrow if at == 0 => {
+                    (positions[last / 8], positions[last / 2])
+                }
+                Stretches::WideBeforeNarrow => {
+                    let position = positions[random.below(last + 1).max(last / 8)];
+                    (position, position)
+                }
+                Stretches::Adjacent => (
+                    from.saturating_add(1),
+                    next.saturating_sub(random.below(2) as u32),
+                ),
+                Stretches::Between => gaps[at * gaps.len() / count],
+                Stretches::AtTheEnds => match random.below(5) {
+                    0 => (1, random.pick(&positions[..=last / 4])),
+                    1 => (1, 1),
+                    2 => (u32::MAX, u32::MAX),
+                    3 => (random.pick(&positions[last - last / 4..]), u32::MAX),
+                    _ => (from, from),
+                },
+            });
+        }
+        let mut records: Vec<Record> = stretches
+            .into_iter()
+            .map(|(one, other)| annulment(one.min(other), one.max(other)))
+            .collect();
+        records.sort_by_key(|record| record.from);
+        records
+    }
+}
+
+/// The stretches between rising positions, below the first and above the last.
+fn gaps(positions: &[u32]) -> Vec<(u32, u32)> {
+    let mut ends = vec![0];
+    ends.extend_from_slice(positions);
+    let mut gaps: Vec<(u32, u32)> = ends
+        .windows(2)
+        .filter(|two| two[1] - two[0] > 1)
+        .map(|two| (two[0] + 1, two[1] - 1))
+        .collect();
+    let last = positions[positions.len() - 1];
+    if last < TOP {
+        gaps.push((last + 1, TOP));
+    }
+    gaps
+}
+
+fn drawn_stretch(random: &mut Random, positions: &[u32]) -> (u32, u32) {
+    (random.pick(positions), random.pick(positions))
+}
+
+/// Batches with a record that removes under every term, or that would if it were not refused, each
+/// with its number.
+pub const WRONG_ANNULMENTS: [(&[u32], u32); 32] = [
+    // Kind 3 with a term.
+    (&[3, 1, 1, 9], 6),
+    (&[3, 5, 2, 2], 6),
+    (&[3, TOP, 1, TOP], 6),
+    (&[3, 0, 1, 9, 3, 5, 1, 9], 6),
+    (&[3, 0, 1, 9, 1, 5, 2, 2, 3, 5, 2, 9], 6),
+    // Term 0 with another kind.
+    (&[1, 0, 5, 5], 6),
+    (&[2, 0, 1, 9], 6),
+    (&[2, 0, 1, TOP], 6),
+    (&[3, 0, 1, 9, 1, 0, 5, 5], 6),
+    (&[3, 0, 1, 9, 2, 0, 1, 9], 6),
+    // Kinds that are none.
+    (&[0, 0, 1, 9], 6),
+    (&[4, 0, 1, 9], 6),
+    (&[4, 5, 1, 9], 6),
+    (&[1 << 16 | 3, 0, 1, 9], 6),
+    (&[TOP, 0, 1, 9], 6),
+    // A zero in from or to, from above to.
+    (&[3, 0, 0, 9], 6),
+    (&[3, 0, 9, 0], 6),
+    (&[3, 0, 0, 0], 6),
+    (&[3, 0, 9, 8], 6),
+    (&[3, 0, TOP, 1], 6),
+    (&[3, 0, TOP, TOP - 1], 6),
+    (&[3, 0, 2, 9, 3, 0, 3, 2], 6),
+    // The order falls.
+    (&[1, 1, 1, 1, 3, 0, 1, 9], 7),
+    (&[2, 1, 1, 9, 3, 0, 9, 9], 7),
+    (&[1, TOP, TOP, TOP, 3, 0, TOP, TOP], 7),
+    (&[3, 0, 1, 9, 1, 5, 2, 2, 3, 0, 1, 9], 7),
+    (&[3, 0, 5, 9, 3, 0, 4, 20], 7),
+    (&[3, 0, 2, 2, 3, 0, 1, 1, 1, 5, 2, 2], 7),
+    // 6 before 7.
+    (&[1, 1, 1, 1, 3, 0, 0, 9], 6),
+    (&[3, 0, 5, 9, 3, 0, 4, 3], 6),
+    (&[1, 5, 2, 2, 3, 4, 2, 2], 6),
+    (&[1, 5, 2, 2, 3, 0, 1, 9, 2, 0, 1, 9], 6),
+];
+
 /// A batch that is judged 6 or 7.
 pub fn bad(random: &mut Random, universe: &Universe) -> Vec<u32> {
     loop {
@@ -203,7 +408,7 @@ pub fn bad(random: &mut Random, universe: &Universe) -> Vec<u32> {
             continue;
         }
         let record = 4 * random.below(batch.len() / 4);
-        match random.below(8) {
+        match random.below(12) {
             0 => batch.truncate(batch.len() - 1 - random.below(3)),
             1 => batch[record] = random.pick(&[0, 3, 4, u32::MAX]),
             2 => batch[record + 1 + random.below(3)] = 0,
@@ -214,9 +419,34 @@ pub fn bad(random: &mut Random, universe: &Universe) -> Vec<u32> {
                 let whole = batch[record..record + 4].to_vec();
                 batch = whole.repeat(MOST_RECORDS + 1);
             }
-            _ => {
+            7 => {
                 let word = random.below(batch.len());
                 batch[word] = random.word();
+            }
+            8 => {
+                // Kind 3 with a term, or term 0 with another kind.
+                let term = random.pick(&[0, 1, 5, TOP]);
+                let kind = if term == 0 {
+                    random.within(1, 2)
+                } else {
+                    ANNUL
+                };
+                batch[record] = kind;
+                batch[record + 1] = term;
+            }
+            9 => {
+                // A stretch that cannot be, in front.
+                let (from, to) = random.pick(&[(0, 9), (9, 0), (0, 0), (9, 8), (TOP, 1)]);
+                batch.splice(0..0, annulment(from, to).words());
+            }
+            10 => {
+                // A removal under every term behind others.
+                let (from, to) = universe.range(random);
+                batch.splice(record + 4..record + 4, annulment(from, to).words());
+            }
+            _ => {
+                let (wrong, _) = random.pick(&WRONG_ANNULMENTS);
+                batch.splice(record..record, wrong.iter().copied());
             }
         }
         if judge_batch(&batch) != 0 {

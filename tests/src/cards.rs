@@ -94,6 +94,18 @@ pub fn laid_out(
     memory
 }
 
+/// The blocks of rising pairs, each as full as it can be.
+pub fn packed(pairs: impl IntoIterator<Item = Pair>, b: u32) -> Vec<Vec<Pair>> {
+    let mut rest: Vec<Pair> = pairs.into_iter().collect();
+    let mut blocks = Vec::new();
+    while !rest.is_empty() {
+        let due = block::longest_beginning(rest.iter().copied(), b as usize);
+        rest = rest.split_off(due.len());
+        blocks.push(due);
+    }
+    blocks
+}
+
 /// Puts a block and its map entry in a place.
 pub fn put_block(card: &mut [u32], configuration: &Configuration, place: usize, pairs: &[Pair]) {
     let words = block::block_words(pairs, configuration.b as usize);

@@ -1,5 +1,6 @@
 // Comparisons of the library under test with the second program, and the tally of what they met.
 
+use crate::batches;
 use crate::ffi;
 use crate::random::Random;
 use crate::second::page::{page_bytes, LINE_BYTES, LINE_POSITIONS};
@@ -140,6 +141,8 @@ pub struct Steps {
     pub began_in_mid_pass: u64,
     pub due_place_before_old_start: u64,
     pub on_full_cards: u64,
+    pub annulling: u64,
+    pub annulling_in_mid_pass: u64,
     pub passes: u64,
     pub passes_at_the_limit: u64,
 }
@@ -183,12 +186,14 @@ impl Steps {
             self.began_in_mid_pass,
             self.due_place_before_old_start,
             self.on_full_cards,
+            self.annulling,
+            self.annulling_in_mid_pass,
         ] {
             assert!(count >= least, "a shape came {count} times: {self:?}");
         }
     }
 
-    fn note(&mut self, before: &[u32], after: &[u32], answer: &StepAnswer) {
+    fn note(&mut self, before: &[u32], after: &[u32], batch: &[u32], answer: &StepAnswer) {
         self.numbers.note(answer.number);
         if answer.number != 0 {
             return;
@@ -200,6 +205,9 @@ impl Steps {
         self.on_full_cards += u64::from(live == configuration.n - 1);
         let around = configuration.due_place() < configuration.old_start as usize;
         self.due_place_before_old_start += u64::from(around);
+        let annuls = batches::annuls(batch);
+        self.annulling += u64::from(annuls);
+        self.annulling_in_mid_pass += u64::from(annuls && configuration.new_length > 0);
         if answer.write == 3 {
             let on = !answer.finished;
             self.going_on += u64::from(on);
@@ -337,7 +345,7 @@ pub fn step(
     let batch_kept = lent_batch.inside() == batch && lent_batch.guards_stand();
     assert!(batch_kept, "step changed its batch; {}", message());
     span(card, lent.inside(), answer.write, &message);
-    steps.note(card, &expected_card, &answer);
+    steps.note(card, &expected_card, batch, &answer);
     card.copy_from_slice(&expected_card);
     answer
 }

@@ -2,9 +2,9 @@
 
 use crate::batches::{self, Mixture, Universe};
 use crate::random::Random;
-use crate::second::batch::{self, Record, ADD};
+use crate::second::batch::{self, Record, ADD, ANNUL};
 
-/// The line of a record, without a line feed.
+/// The line of a record, without a line feed; none says a removal under every term.
 pub fn line(record: &Record) -> Vec<u8> {
     let Record {
         kind,
@@ -12,6 +12,7 @@ pub fn line(record: &Record) -> Vec<u8> {
         from,
         to,
     } = record;
+    assert_ne!(*kind, ANNUL, "no line says it");
     if *kind == ADD {
         format!("A\t{term}\t{from}").into_bytes()
     } else {
@@ -74,6 +75,7 @@ pub fn good_lines(
 ) -> Vec<Vec<u8>> {
     let batch = batches::good(random, universe, mixture, most);
     let mut records = batch::records(&batch);
+    records.retain(|record| record.kind != ANNUL);
     random.shuffle(&mut records);
     lines(&records)
 }

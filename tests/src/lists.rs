@@ -62,6 +62,7 @@ pub struct Figures {
     pub landed: u64,
     pub restarts: u64,
     pub wrapped: u64,
+    pub annulling: [u64; 4],
 }
 
 /// One list in play: the card, the history beside it, and the batch being worked in.
@@ -154,6 +155,7 @@ impl<'a, P: Program> List<'a, P> {
                 let finished = self.history.step(&self.batch, which == 3);
                 assert_eq!(finished.unwrap_or(false), answer.finished);
                 figures.writes[which as usize] += 1;
+                figures.annulling[which as usize] += u64::from(batches::annuls(&self.batch));
                 figures.finished += u64::from(answer.finished);
                 let live = self.card[3] + self.card[4] + self.card[5];
                 figures.wrapped += u64::from(live > self.n);

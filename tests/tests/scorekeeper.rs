@@ -188,6 +188,13 @@ fn scorekeeper_outputs_written_out() {
         ("R\t5\t0\t2\n", "N\t6\n"),
         ("R\t5\t0\t0\n", "N\t6\n"),
         ("A\t5\t2\nR\t0\t1\t1", "N\t6\n"),
+        // No line says a removal under every term.
+        ("R\t0\t1\t9", "N\t6\n"),
+        ("R\t0\t1\t4294967295\n", "N\t6\n"),
+        ("A\t0\t5", "N\t6\n"),
+        ("A\t0\t5\nR\t0\t1\t9\n", "N\t6\n"),
+        ("N\t1\t9\n", "N\t12\n"),
+        ("R\t1\t9\n", "N\t12\n"),
         ("\n", "N\t12\n"),
         ("\n\n", "N\t12\n"),
         ("A\t5\t2\n\n", "N\t12\n"),
@@ -233,8 +240,8 @@ fn scorekeeper_outputs_written_out() {
     check(&output, "D\t3\n", &|| "from the second line".to_string());
     runs.report();
     runs.tally.expect(&[0], 25);
-    runs.tally.expect(&[12], 12);
-    runs.tally.expect(&[6], 7);
+    runs.tally.expect(&[12], 14);
+    runs.tally.expect(&[6], 11);
     runs.tally.expect(&[8], 4);
     runs.tally.expect(&[13], 2);
 }

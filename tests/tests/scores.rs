@@ -65,6 +65,9 @@ fn scores_written_out() {
         // Zeros and ranges that fall are for the judge of the batch.
         read(t, "A\t0\t0", &[1, 0, 0, 0]);
         read(t, "R\t0\t0\t0", &[2, 0, 0, 0]);
+        // No line says a removal under every term: this is one of term 0.
+        read(t, "R\t0\t1\t9", &[2, 0, 1, 9]);
+        read(t, "A\t5\t2\nR\t0\t1\t9", &[2, 0, 1, 9, 1, 5, 2, 2]);
         read(t, "R\t1\t9\t2", &[2, 1, 9, 2]);
         let top = "4294967295";
         let longest = format!("R\t{top}\t{top}\t{top}");
@@ -701,6 +704,16 @@ fn library_outcome(bytes: &[u8]) -> Outcome {
 fn passes_with_the_batch_of_a_file() {
     let mut random = Random::new(112);
     let mut tally = Tally::new();
+    for (bytes, outcome) in [
+        ("R\t0\t1\t9", Outcome::Number(6)),
+        ("R\t0\t1\t4294967295\n", Outcome::Number(6)),
+        ("A\t0\t5\n", Outcome::Number(6)),
+        ("A\t5\t2\nR\t0\t1\t9\n", Outcome::Number(6)),
+        ("A\t5\t2\nR\t5\t1\t9\n", Outcome::Steps(3)),
+    ] {
+        assert_eq!(library_outcome(bytes.as_bytes()), outcome, "{bytes}");
+        assert_eq!(scores::outcome(bytes.as_bytes()), outcome, "{bytes}");
+    }
     let mut by_steps = [0; 16];
     for round in 0..4_000 {
         let universe = Universe::random(&mut random);

@@ -3,14 +3,16 @@
 
 use std::collections::BTreeSet;
 
-use gameindex_tests::batches::{self, addition, removal, Mixture, Universe};
+use gameindex_tests::batches::{
+    self, addition, annulment, removal, Mixture, Stretches, Universe, WRONG_ANNULMENTS,
+};
 use gameindex_tests::cards;
 use gameindex_tests::compare::{done, refused};
 use gameindex_tests::lists::{self, Figures, List, Second};
 use gameindex_tests::random::Random;
 use gameindex_tests::second::page::page_bytes;
 use gameindex_tests::second::scores::{self, Outcome, ScoresAnswer};
-use gameindex_tests::second::{self, block, Configuration, Pair, HIGHEST, LOWEST};
+use gameindex_tests::second::{self, block, Configuration, History, Pair, HIGHEST, LOWEST};
 
 fn zeros(n: u32) -> Vec<u32> {
     let mut card = vec![0; cards::right_length(8, n)];
@@ -237,6 +239,121 @@ fn numbers_of_the_batch() {
     assert_eq!(number(&[1, 5, 2, 2, 2, 5, 1, 9]), 7);
 }
 
+#[test]
+fn numbers_of_annulments() {
+    let number = second::judge_batch;
+    let top = u32::MAX;
+    for good in [
+        &[3, 0, 1, 1][..],
+        &[3, 0, 1, top],
+        &[3, 0, top, top],
+        &[3, 0, 5, 9, 3, 0, 5, 9],
+        &[3, 0, 5, 9, 3, 0, 5, 6],
+        &[3, 0, 5, 6, 3, 0, 5, 9],
+        &[3, 0, 1, top, 3, 0, 2, 2, 3, 0, top, top],
+        &[3, 0, 7, 9, 1, 1, 1, 1],
+        &[3, 0, 7, 9, 2, 1, 1, 1, 1, top, top, top],
+    ] {
+        assert_eq!(number(good), 0, "{good:?}");
+    }
+    assert_eq!(number(&[3, 0, 5, 9].repeat(4096)), 0);
+    assert_eq!(number(&[3, 0, 5, 9].repeat(4097)), 6);
+    for (wrong, expected) in WRONG_ANNULMENTS {
+        assert_eq!(number(wrong), expected, "{wrong:?}");
+        // So it is behind good records in front and before good ones at the end.
+        let between = [&[3, 0, 1, 1], wrong, &[1, top, top, top]].concat();
+        assert_eq!(number(&between), expected, "{between:?}");
+        // A refused step writes nothing.
+        let mut card = p1(4);
+        let before = card.clone();
+        assert_eq!(second::step(&mut card, wrong), refused(expected));
+        assert_eq!(second::due_write(&card, wrong), None);
+        assert_eq!(card, before);
+    }
+}
+
+/// Round 2 stood at positions 3 to 9 under three terms. It goes; the game at 9 under term 7 is added
+/// in the same batch and stays, and what stands beside the round stays too.
+#[test]
+fn an_annulled_round() {
+    let mut card = zeros(5);
+    let played = [(5, 2), (5, 3), (5, 9), (7, 4), (7, 9), (9, 3), (9, 10)];
+    let adding = batches::words(played.iter().map(|pair| addition(pair.0, pair.1)).collect());
+    assert_eq!(cards::run(&mut card, &adding, 12), 0);
+    assert_eq!(live(&card), played);
+    assert_eq!(card[..8], [1, 8, 5, 0, 2, 0, 0, 0]);
+
+    let batch = batches::words(vec![addition(7, 9), annulment(3, 9)]);
+    assert_eq!(batch, [3, 0, 3, 9, 1, 7, 9, 9]);
+    assert_eq!(second::blocks_filled(&card, &batch), 2);
+    let mut history = History::new(8);
+    assert_eq!(history.step(&adding, true), Some(false));
+    assert_eq!(history.step(&adding, true), Some(true));
+    assert_eq!(history.pairs(), &BTreeSet::from(played));
+
+    assert_eq!(second::step(&mut card, &batch), done(1, 0, false));
+    assert_eq!(block_at(&card, 2), [5, 1, 2, 7, 1, 9, 0, 0]);
+    assert_eq!(second::step(&mut card, &batch), done(2, 0, false));
+    assert_eq!(map_at(&card, 2), (5, 2));
+    // (7,9), the due block's last pair, is the boundary; the first old block ends with (7,4).
+    assert_eq!(second::step(&mut card, &batch), done(3, 1, false));
+    assert_eq!(card[..8], [1, 8, 5, 1, 1, 1, 7, 9]);
+    // In mid-pass (9,3) is still there.
+    assert_eq!(live(&card), [(5, 2), (7, 9), (9, 3), (9, 10)]);
+    assert_eq!(history.step(&batch, true), Some(false));
+    assert_eq!(
+        history.pairs(),
+        &BTreeSet::from([(5, 2), (7, 9), (9, 3), (9, 10)])
+    );
+    assert_eq!(history.mark(), Some((7, 9)));
+    assert_eq!(second::step(&mut card, &batch), done(1, 0, false));
+    assert_eq!(block_at(&card, 3), [9, 1, 10, 0, 0, 0, 0, 0]);
+    assert_eq!(second::step(&mut card, &batch), done(2, 0, false));
+    assert_eq!(second::step(&mut card, &batch), done(3, 1, true));
+    assert_eq!(card[..8], [1, 8, 5, 2, 2, 0, 0, 0]);
+    assert_eq!(live(&card), [(5, 2), (7, 9), (9, 10)]);
+    assert_eq!(history.step(&batch, true), Some(true));
+    assert_eq!(history.pairs(), &BTreeSet::from([(5, 2), (7, 9), (9, 10)]));
+    assert_eq!(found(&card, 7, 1, 9), (vec![9], 1));
+    assert_eq!(found(&card, 9, 3, 9), (vec![], 1));
+
+    // The whole batch once more leaves the index as it is.
+    assert_eq!(cards::run(&mut card, &batch, 6), 0);
+    assert_eq!(live(&card), [(5, 2), (7, 9), (9, 10)]);
+    // Everything goes in one step, under all terms at once.
+    let everything = annulment(1, u32::MAX).words();
+    assert_eq!(second::blocks_filled(&card, &everything), 0);
+    assert_eq!(second::step(&mut card, &everything), done(3, 2, true));
+    assert_eq!(live(&card), []);
+}
+
+/// What a batch leaves of (5,2), (5,9), (7,4).
+#[test]
+fn annulments_written_out() {
+    let set = BTreeSet::from([(5, 2), (5, 9), (7, 4)]);
+    let top = u32::MAX;
+    let cases: [(&[u32], &[Pair]); 13] = [
+        (&[3, 0, 1, top], &[]),
+        (&[3, 0, 2, 9], &[]),
+        (&[3, 0, 3, 8], &[(5, 2), (5, 9)]),
+        (&[3, 0, 2, 4], &[(5, 9)]),
+        (&[3, 0, 4, 4], &[(5, 2), (5, 9)]),
+        (&[3, 0, 5, 8], &[(5, 2), (5, 9), (7, 4)]),
+        (&[3, 0, 1, 1, 3, 0, 10, top], &[(5, 2), (5, 9), (7, 4)]),
+        (&[3, 0, 1, 9, 3, 0, 2, 2], &[]),
+        (&[3, 0, 2, 3, 3, 0, 2, 4], &[(5, 9)]),
+        (&[3, 0, 2, 4, 3, 0, 2, 3], &[(5, 9)]),
+        (&[3, 0, 4, 9, 2, 5, 2, 2], &[]),
+        (&[3, 0, 1, 9, 1, 5, 9, 9, 1, 6, 3, 3], &[(5, 9), (6, 3)]),
+        (&[3, 0, 1, 9, 2, 5, 9, 9, 1, 5, 9, 9], &[(5, 9)]),
+    ];
+    for (batch, expected) in cases {
+        assert_eq!(second::judge_batch(batch), 0);
+        let left: Vec<Pair> = second::applied(batch, &set).into_iter().collect();
+        assert_eq!(left, expected, "{batch:?}");
+    }
+}
+
 /// A card of B 8 and N 4 with two old and one new block around the circle, as words to damage.
 fn judged_example() -> Vec<u32> {
     let card = cards::laid_out(
@@ -376,11 +493,51 @@ fn packing_agrees_with_the_words_of_a_block() {
     println!("packing_agrees_with_the_words_of_a_block: {checked} comparisons");
 }
 
+/// How a batch came by a pair.
+#[derive(Debug, Default)]
+struct Met {
+    checked: u64,
+    annulled: u64,
+    annulled_and_added: u64,
+    annulled_and_removed: u64,
+    beside: u64,
+}
+
+/// Whether a pair is in the set less everything removed, plus everything added: it is where some
+/// record adds it, or where it was there and no record removes it.
+fn expected_in(met: &mut Met, batch: &[u32], set: &BTreeSet<Pair>, pair: Pair) -> bool {
+    let (term, position) = pair;
+    let mut added = false;
+    let mut removed = false;
+    let mut annulled = false;
+    let mut beside = false;
+    for record in batch.chunks(4) {
+        let (kind, its_term, from, to) = (record[0], record[1], record[2], record[3]);
+        let within = from <= position && position <= to;
+        match kind {
+            1 => added |= its_term == term && from == position,
+            2 => removed |= its_term == term && within,
+            _ => {
+                assert_eq!((kind, its_term), (3, 0));
+                annulled |= within;
+                beside |= !within && (position == from - 1 || position - 1 == to);
+            }
+        }
+    }
+    let was = set.contains(&pair);
+    met.checked += 1;
+    met.annulled += u64::from(was && annulled && !removed && !added);
+    met.annulled_and_added += u64::from(was && annulled && added);
+    met.annulled_and_removed += u64::from(was && annulled && removed && !added);
+    met.beside += u64::from(was && beside && !annulled && !removed);
+    added || (was && !removed && !annulled)
+}
+
 /// A pair is in the result where it was added, or was there and not removed.
 #[test]
 fn batches_applied_pair_by_pair() {
     let mut random = Random::new(12);
-    let mut checked = 0;
+    let mut met = Met::default();
     for _ in 0..10_000 {
         let universe = Universe::random(&mut random);
         let batch = batches::good(&mut random, &universe, Mixture::Both, 12);
@@ -391,23 +548,73 @@ fn batches_applied_pair_by_pair() {
         let result = second::applied(&batch, &set);
         for &term in &universe.terms {
             for &position in &universe.positions {
-                let touched = |kind: u32| {
-                    batch.chunks(4).any(|record| {
-                        let in_range = record[2] <= position && position <= record[3];
-                        record[0] == kind && record[1] == term && in_range
-                    })
-                };
                 let pair = (term, position);
-                let expected = touched(1) || (set.contains(&pair) && !touched(2));
+                let expected = expected_in(&mut met, &batch, &set, pair);
                 assert_eq!(result.contains(&pair), expected);
-                checked += 1;
             }
         }
         let known =
             |pair: &Pair| universe.terms.contains(&pair.0) && universe.positions.contains(&pair.1);
         assert!(result.iter().all(known));
     }
-    println!("batches_applied_pair_by_pair: {checked} comparisons");
+    println!(
+        "batches_applied_pair_by_pair: {} comparisons, {met:?}",
+        met.checked
+    );
+    assert!(met.annulled > 5_000 && met.annulled_and_added > 500);
+    assert!(met.annulled_and_removed > 500 && met.beside > 500);
+}
+
+/// Stretches of every shape, up to the most records, beside other records, over positions at their
+/// ends and next to them.
+#[test]
+fn stretches_applied_pair_by_pair() {
+    let mut random = Random::new(13);
+    let mut met = Met::default();
+    for shape in Stretches::EVERY {
+        for count in [0, 1, 2, 3, 7, 16, 16, 60, 200, 4095] {
+            let grid: Vec<u32> = match random.below(3) {
+                0 => (1..=40).collect(),
+                1 => (1..=40).map(|i| i * 5).collect(),
+                _ => (0..40).map(|i| u32::MAX - (39 - i) * 3).collect(),
+            };
+            let mut records = shape.records(&mut random, &grid, count);
+            assert_eq!(records.len(), count);
+            let terms = [1, 2, 7, u32::MAX];
+            let mut set = BTreeSet::new();
+            for &position in &grid {
+                for position in [position - 1, position, position.saturating_add(1)] {
+                    if position != 0 && random.chance(2, 3) {
+                        set.insert((random.pick(&terms), position));
+                    }
+                }
+            }
+            let known: Vec<Pair> = set.iter().copied().collect();
+            for _ in 0..random.below(2) * 12 {
+                let (term, position) = random.pick(&known);
+                let record = match random.below(3) {
+                    0 => removal(term, position, position.saturating_add(2)),
+                    _ => addition(term, position),
+                };
+                if records.len() < 4096 {
+                    records.push(record);
+                }
+            }
+            let batch = batches::words(records);
+            assert_eq!(second::judge_batch(&batch), 0);
+            let result = second::applied(&batch, &set);
+            for &pair in set.iter().chain(&result) {
+                let expected = expected_in(&mut met, &batch, &set, pair);
+                assert_eq!(result.contains(&pair), expected, "{shape:?}, {count}");
+            }
+        }
+    }
+    println!(
+        "stretches_applied_pair_by_pair: {} comparisons, {met:?}",
+        met.checked
+    );
+    assert!(met.annulled > 1_000 && met.annulled_and_added > 50);
+    assert!(met.annulled_and_removed > 50 && met.beside > 200);
 }
 
 #[test]
@@ -430,6 +637,7 @@ fn lists_of_calls_against_the_history() {
     assert!(figures.cuts[1] > 1000 && figures.cuts[2] > 1000 && figures.cuts[3] > 1000);
     assert!(figures.finished > 1000 && figures.stopped_by_8 > 1000 && figures.landed > 1000);
     assert!(figures.wrapped > 1000 && figures.postings > 1000);
+    assert!(figures.annulling[1..].iter().all(|&count| count > 1000));
 }
 
 /// Runs a pass to its end. Gives the steps taken and the last answer's number.
@@ -495,16 +703,19 @@ fn passes_keep_the_step_limit() {
     assert!(at_limit > 1000 && stopped > 500);
 }
 
-/// A batch of removals that takes out some of the card's own pairs.
+/// A batch of removals that takes out some of the card's own pairs, under their terms, under every
+/// term, or both.
 fn removals_of(random: &mut Random, card: &[u32]) -> Vec<u32> {
+    let of_every_term = random.pick(&[0, 1, 4]);
     let mut records = Vec::new();
     for (term, position) in second::live_pairs(card) {
         if random.chance(1, 4) {
-            records.push(removal(
-                term,
-                position,
-                position.saturating_add(random.below(3) as u32),
-            ));
+            let to = position.saturating_add(random.below(3) as u32);
+            if random.chance(of_every_term, 4) {
+                records.push(annulment(position, to));
+            } else {
+                records.push(removal(term, position, to));
+            }
         }
     }
     batches::words(records)
@@ -513,7 +724,9 @@ fn removals_of(random: &mut Random, card: &[u32]) -> Vec<u32> {
 #[test]
 fn removals_with_two_places_free_always_go_through() {
     let mut passes = 0;
+    let mut by_annulments_alone = 0;
     let mut stopped_with_one = 0;
+    let mut annulments_stopped_with_one = 0;
     for seed in 0..12_000 {
         let mut random = Random::new(90_000 + seed);
         let b = random.pick(&[8, 8, 9, 10, 12]);
@@ -522,18 +735,23 @@ fn removals_with_two_places_free_always_go_through() {
         let batch = removals_of(&mut random, &card);
         let free = Configuration::read(&card).free_places().len();
         let (_, number) = whole_pass(&mut card, &batch);
+        let alone = batches::annuls(&batch) && batch.chunks(4).all(|record| record[0] == 3);
         if free >= 2 {
             assert_eq!(number, 0);
             passes += 1;
+            by_annulments_alone += u32::from(alone);
         } else if number == 8 {
             stopped_with_one += 1;
+            annulments_stopped_with_one += u32::from(alone);
         }
     }
     println!(
         "removals_with_two_places_free_always_go_through: {passes} comparisons, \
-         {stopped_with_one} stopped with one place free"
+         {by_annulments_alone} of annulments alone; {stopped_with_one} stopped with one place \
+         free, {annulments_stopped_with_one} of annulments alone"
     );
-    assert!(passes > 1000);
+    assert!(passes > 1000 && by_annulments_alone > 500);
+    assert!(annulments_stopped_with_one > 5);
 }
 
 #[test]

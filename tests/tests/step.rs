@@ -2,12 +2,13 @@
 
 use std::collections::BTreeSet;
 
-use gameindex_tests::batches::{self, addition, removal, Mixture, Universe};
+use gameindex_tests::batches::{
+    self, addition, annulment, removal, Mixture, Universe, WRONG_ANNULMENTS,
+};
 use gameindex_tests::cards;
 use gameindex_tests::compare::{self, done, refused, Steps};
 use gameindex_tests::ffi;
 use gameindex_tests::random::Random;
-use gameindex_tests::second::block;
 use gameindex_tests::second::{self, Configuration, History, Pair, StepAnswer, HIGHEST};
 
 const TOP: u32 = u32::MAX;
@@ -130,7 +131,7 @@ fn small_cards() -> Vec<Vec<u32>> {
 fn step_with_every_small_batch() {
     let mut steps = Steps::new();
     let mut records: Vec<[u32; 4]> = Vec::new();
-    for kind in [0, 1, 2, 3, TOP] {
+    for kind in [0, 1, 2, 3, 4, TOP] {
         for term in [0, 1, 2, TOP] {
             for from in [0, 1, 2, TOP] {
                 for to in [0, 1, 2, TOP] {
@@ -208,10 +209,15 @@ fn step_with_bad_batches() {
             let (from, to) = (record[2], record[3]);
             let mut faults: Vec<(usize, u32)> = vec![
                 (0, 0),
+                (0, 1),
+                (0, 2),
                 (0, 3),
+                (0, 4),
                 (0, 1 << 16 | 1),
+                (0, 1 << 16 | 3),
                 (0, TOP),
                 (1, 0),
+                (1, 5),
                 (2, 0),
                 (3, 0),
                 (2, to.wrapping_add(1)),
@@ -234,6 +240,14 @@ fn step_with_bad_batches() {
                 }
                 let about = || format!("record {at}, field {field}");
                 compare::step(&mut steps, &mut card.clone(), &bad, &about);
+            }
+            for (wrong, _) in WRONG_ANNULMENTS {
+                if random.chance(1, 8) {
+                    let mut bad = batch.clone();
+                    bad.splice(word..word, wrong.iter().copied());
+                    let about = || format!("{wrong:?} before record {at}");
+                    compare::step(&mut steps, &mut card.clone(), &bad, &about);
+                }
             }
             if at > 0 {
                 // A fall by term, a fall by from, and repeats.
@@ -265,10 +279,16 @@ fn step_with_bad_batches() {
     steps.expect(&[8], 200);
 }
 
-/// A good batch of exactly `count` records.
+/// A good batch of exactly `count` records, with a few positions removed under every term.
 fn exactly(random: &mut Random, universe: &Universe, count: usize) -> Vec<u32> {
+    let annulments = random.below(2) * (count / 3).min(3);
     let mut records = Vec::new();
-    for _ in 0..count {
+    for at in 0..count {
+        if at < annulments {
+            let position = universe.position(random);
+            records.push(annulment(position, position));
+            continue;
+        }
         let term = universe.term(random);
         if random.chance(2, 3) {
             records.push(addition(term, universe.position(random)));
@@ -301,13 +321,20 @@ fn step_with_the_longest_batches() {
     let mut steps = Steps::new();
     let universe = Universe::wide(4000);
     for (b, n) in [(8, 4), (64, 100), (1024, 3)] {
-        let card = cards::stepped(&mut random, b, n);
+        let card = match b {
+            8 => second_full_card(&mut random),
+            _ => cards::stepped(&mut random, b, n),
+        };
         let most = exactly(&mut random, &universe, 4096);
         let same = batches::words(vec![addition(7, 7)]).repeat(4096);
         let removing = batches::words(vec![removal(7, 7, TOP)]).repeat(4095);
         let rising: Vec<u32> = (1..=4096).flat_map(|i| [1, 5, i * 9, i * 9]).collect();
         let terms: Vec<u32> = (1..=4096).flat_map(|i| [1, i * 9, 5, 5]).collect();
-        for batch in [&most, &same, &removing, &rising, &terms] {
+        let step = u32::MAX / 4096;
+        let annulling: Vec<u32> = (0..4096)
+            .flat_map(|i| [3, 0, i * step + 1, i * step + 9])
+            .collect();
+        for batch in [&most, &same, &removing, &rising, &terms, &annulling] {
             let step = |steps: &mut Steps, batch: &[u32]| {
                 compare::step(steps, &mut card.clone(), batch, &|| format!("B {b}, N {n}"))
             };
@@ -343,6 +370,12 @@ fn step_with_the_longest_batches() {
         let mut last = same[4..].to_vec();
         last.extend_from_slice(&[2, 7, TOP, TOP]);
         last[0] = 2;
+        compare::pass(&mut steps, &mut card, &last, &String::new);
+        assert_eq!(second::live_pairs(&card), BTreeSet::from([(7, 7)]));
+        // So it is of removals under every term.
+        let mut last = annulment(8, 9).words().repeat(4095);
+        last.extend_from_slice(&[3, 0, TOP, TOP]);
+        compare::pass(&mut steps, &mut card, &[1, 9, TOP, TOP], &String::new);
         compare::pass(&mut steps, &mut card, &last, &String::new);
         assert_eq!(second::live_pairs(&card), BTreeSet::from([(7, 7)]));
         compare::pass(&mut steps, &mut card, &removing, &String::new);
@@ -408,18 +441,15 @@ fn step_on_every_small_index() {
             }
         }
     }
+    for (i, &from) in positions.iter().enumerate() {
+        records.extend(positions[i..].iter().map(|&to| annulment(from, to).words()));
+    }
     for chosen in 0..1usize << pairs.len() {
         let set = pairs.iter().enumerate();
-        let mut rest: Vec<Pair> = set
+        let set = set
             .filter(|(i, _)| chosen >> i & 1 == 1)
-            .map(|(_, &pair)| pair)
-            .collect();
-        let mut old = Vec::new();
-        while !rest.is_empty() {
-            let due = block::longest_beginning(rest.iter().copied(), 8);
-            rest = rest.split_off(due.len());
-            old.push(due);
-        }
+            .map(|(_, &pair)| pair);
+        let old = cards::packed(set, 8);
         let n = (old.len() as u32 + 1 + random.below(3) as u32).max(2);
         let start = random.below(n as usize) as u32;
         let memory = cards::memory(&mut random, 8, n);
@@ -491,6 +521,7 @@ fn step_until_no_place_is_left() {
     println!("step_until_no_place_is_left: {removals_through} passes of removals, two places free");
     steps.expect(&[0], 10_000);
     steps.expect(&[8], 1_000);
+    assert!(steps.annulling > 500);
 }
 
 /// Removals alone with two or more places free, on loose cards: 8 never comes.
@@ -499,7 +530,7 @@ fn step_through_passes_of_removals() {
     let mut random = Random::new(27);
     let mut steps = Steps::new();
     let mut stopped_with_one_free = 0;
-    for _ in 0..1500 {
+    for _ in 0..6000 {
         let b = random.pick(&[8, 8, 9, 10, 12]);
         let n = random.pick(&[3, 4, 5, 6, 8]);
         let mut card = cards::loose(&mut random, b, n);
@@ -525,6 +556,7 @@ fn step_through_passes_of_removals() {
     println!("step_through_passes_of_removals: {stopped_with_one_free} stopped, one place free");
     steps.expect(&[0], 5_000);
     assert!(stopped_with_one_free > 5);
+    assert!(steps.annulling > 1_000 && steps.annulling_in_mid_pass > 500);
 }
 
 /// What a cut may leave of the words being written.
@@ -602,6 +634,7 @@ fn step_after_cuts_in_every_write() {
     );
     steps.expect(&[0], 20_000);
     assert!(cuts[1..].iter().all(|&count| count > 1_000));
+    assert!(steps.annulling > 3_000 && steps.annulling_in_mid_pass > 1_000);
 }
 
 /// Lists of steps with changing batches, cuts, restarts and refused calls against the history.

@@ -9,6 +9,7 @@ pub const RECORD_WORDS: usize = 4;
 pub const MOST_RECORDS: usize = 4096;
 pub const ADD: u32 = 1;
 pub const REMOVE: u32 = 2;
+pub const ANNUL: u32 = 3;
 
 #[derive(Clone, Copy, Debug, PartialEq, Eq)]
 pub struct Record {
@@ -24,11 +25,12 @@ impl Record {
     }
 
     fn is_well_formed(&self) -> bool {
-        let kind_known = self.kind == ADD || self.kind == REMOVE;
-        let no_zero = self.term != 0 && self.from != 0 && self.to != 0;
+        let kind_known = [ADD, REMOVE, ANNUL].contains(&self.kind);
+        let term_of_its_kind = (self.term == 0) == (self.kind == ANNUL);
+        let no_zero = self.from != 0 && self.to != 0;
         let range_rises = self.from <= self.to;
         let one_pair = self.kind != ADD || self.from == self.to;
-        kind_known && no_zero && range_rises && one_pair
+        kind_known && term_of_its_kind && no_zero && range_rises && one_pair
     }
 }
 
@@ -72,8 +74,25 @@ pub fn applied(batch: &[u32], set: &BTreeSet<Pair>) -> BTreeSet<Pair> {
             result.remove(&pair);
         }
     }
+    if records.iter().any(|record| record.kind == ANNUL) {
+        let kept = positions_kept(&records, &result);
+        result.retain(|pair| kept.contains(&pair.1));
+    }
     for record in records.iter().filter(|record| record.kind == ADD) {
         result.insert((record.term, record.from));
     }
     result
+}
+
+/// The positions of a set, of whatever terms, that no record takes from every term.
+fn positions_kept(records: &[Record], set: &BTreeSet<Pair>) -> BTreeSet<u32> {
+    let mut kept: BTreeSet<u32> = set.iter().map(|pair| pair.1).collect();
+    for record in records.iter().filter(|record| record.kind == ANNUL) {
+        let stretch = record.from..=record.to;
+        let taken: Vec<u32> = kept.range(stretch).copied().collect();
+        for position in taken {
+            kept.remove(&position);
+        }
+    }
+    kept
 }
