@@ -5,11 +5,11 @@ use native.Mathlib.Omega.{arith}
 use mathlib.Core.Path.{_≡_, refl, sym, ap, _∙_}
 use mathlib.Core.Bool.{Bool, true, false, cond, _&&_, _||_}
 use mathlib.Core.List.{List, [], _∷_}
-use mathlib.Core.Logic.{_≢_, _⊎_, inl, inr}
+use mathlib.Core.Logic.{_⊎_, inl, inr}
 use lib.ListN.{length, take, drop, getD}
 use lib.Seq.{getD-drop}
 use lib.Dec.{ltb, leb, eqb}
-use borrow.Author.Tests.{ltb-true, ltb-false, lt-ltb, le-ltb, leb-true, leb-false, eqb-true, eqb-false, eq-eqb, ne-eqb}
+use borrow.Author.Tests.{ltb-true, ltb-false, lt-ltb, le-ltb, leb-true, leb-false, lt-leb, eqb-true, eqb-false}
 use Rattle.pair.specs.Rank.{wordLimit, rank}
 use Rattle.pair.proofs.Tests.{and-left, and-right, or-left, or-right, or-cases}
 use Rattle.pair.proofs.Search.{Halved, halved-up, halved-down}
@@ -141,11 +141,15 @@ stands-halved xs n j p h e =
 
 begun-halved : (xs : List ℕ) (n j p : ℕ) → Halved xs p 0 n → Halved xs p (begun xs n j p) (begun xs n j p)
 unfolding begun
-begun-halved xs n j p h = go (stands xs n j p) refl
+begun-halved xs n j p h = go (stands xs n j p) refl (stands xs n (j + 1) p) refl
   where
-    go : (s : Bool) → stands xs n j p ≡ s → Halved xs p (cond s j (halving xs p n 0 n)) (cond s j (halving xs p n 0 n))
-    go true e = stands-halved xs n j p h e
-    go false e = halving-halved xs p n 0 n (omega arith) h
+    At : ℕ → Type 0
+    At i = Halved xs p i i
+
+    go : (s : Bool) → stands xs n j p ≡ s → (t : Bool) → stands xs n (j + 1) p ≡ t → At (cond s j (cond t (j + 1) (halving xs p n 0 n)))
+    go true e t f = stands-halved xs n j p h e
+    go false e true f = stands-halved xs n (j + 1) p h f
+    go false e false f = halving-halved xs p n 0 n (omega arith) h
 
 -- the place is among the first n
 halving-most : (xs : List ℕ) (p turns low high : ℕ) → low ≤ high → halving xs p turns low high ≤ high
@@ -164,13 +168,23 @@ halving-most xs p (suc turns) low high l =
     go true f false up down = omega (arith, ltb-true low high f, down (omega arith))
     go false f t up down = l
 
+stands-most : (xs : List ℕ) (n j p : ℕ) → stands xs n j p ≡ true → j ≤ n
+unfolding stands
+stands-most xs n j p e = leb-true j n (and-left (leb j n) _ (and-left (leb j n && (eqb j 0 || leb (getD xs (j - 1) 0) p)) _ e))
+
 pub begun-most : (xs : List ℕ) (n j p : ℕ) → begun xs n j p ≤ n
-unfolding begun stands
-begun-most xs n j p = go (stands xs n j p) refl
+unfolding begun
+begun-most xs n j p = go (stands xs n j p) refl (stands xs n (j + 1) p) refl
   where
-    go : (s : Bool) → stands xs n j p ≡ s → cond s j (halving xs p n 0 n) ≤ n
-    go true e = leb-true j n (and-left (leb j n) _ (and-left _ _ e))
-    go false e = halving-most xs p n 0 n zero-le
+    go : (s : Bool) → stands xs n j p ≡ s → (t : Bool) → stands xs n (j + 1) p ≡ t → cond s j (cond t (j + 1) (halving xs p n 0 n)) ≤ n
+    go true e t f = stands-most xs n j p e
+    go false e true f = stands-most xs n (j + 1) p f
+    go false e false f = halving-most xs p n 0 n zero-le
+
+-- beyond the first n it stands nowhere
+pub stands-beyond : (xs : List ℕ) (n j p : ℕ) → n < j → stands xs n j p ≡ false
+unfolding stands
+stands-beyond xs n j p l = rw (lt-leb j n l)
 
 -- in a batch in order, as many records start at or below p as stand before such a place
 later : (us : List Update) (a i : ℕ) → falls a us ≡ false → i < length (starts us) → a ≤ getD (starts us) i 0

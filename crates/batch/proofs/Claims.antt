@@ -1,14 +1,14 @@
 -- What is claimed of annulled rounds.
-use Prim.Native.Nat.{ℕ, _+_, _*_, _%_, _≤_, _<_}
+use Prim.Native.Nat.{ℕ, _≤_, _<_}
 use native.Mathlib.Omega.{arith}
-use mathlib.Core.Path.{_≡_, refl, sym, ap, _∙_}
-use mathlib.Core.Bool.{Bool, true, false, _&&_, _||_, not, or-false, or-true, and-false, and-true, false≢true}
+use mathlib.Core.Path.{_≡_, _∙_}
+use mathlib.Core.Bool.{Bool, true, false, _&&_, _||_, not, or-false, and-false, and-true, false≢true}
 use mathlib.Core.List.{List, [], _∷_}
 use mathlib.Core.Logic.{_⊎_, inl, inr}
 use lib.Dec.{leb, eqb}
 use borrow.Author.Tests.{le-leb, eqb-true}
 use Rattle.pair.specs.Rank.{wordLimit, rank, position}
-use Rattle.pair.specs.Rising.{keep, any}
+use Rattle.pair.specs.Rising.{any}
 use Rattle.pair.proofs.Keep.{keep-same}
 use Rattle.pair.proofs.Order.{position-rank}
 use Rattle.pair.proofs.Sets.{has}

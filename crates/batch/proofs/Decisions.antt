@@ -8,7 +8,7 @@ use lib.ListN.{length, drop, length-append}
 use lib.Dec.{ltb, leb, eqb}
 use borrow.Author.Tests.{ltb-true, ltb-false, le-ltb, le-leb, lt-leb, lt-ltb, eq-eqb, ne-eqb, eqb-true, leb-true, leb-false}
 use Rattle.pair.specs.Rank.{wordLimit, rank, position}
-use Rattle.pair.proofs.Tests.{or-left, or-right, or-both}
+use Rattle.pair.proofs.Tests.{or-left, or-right}
 use Rattle.batch.specs.declared.Cursor.{Cursor}
 use Rattle.batch.specs.declared.Passed.{Passed}
 use Rattle.batch.specs.Batch.{Update, updates, anyUpdate, covers, removes, adds, withdrawn, falls, batchNumber}

@@ -1,18 +1,17 @@
 -- Filling the table of where the rounds reach to.
-use Prim.Native.Nat.{ℕ, zero, suc, min, max, _+_, _-_, _/_, _≤_, _<_, zero-le}
+use Prim.Native.Nat.{ℕ, suc, min, max, _+_, _-_, _/_, _≤_, _<_, zero-le}
 use native.Mathlib.Nat.{add-zero}
 use native.Mathlib.Omega.{arith}
 use mathlib.Core.Path.{_≡_, refl, sym, ap, ap₂, _∙_}
-use mathlib.Core.List.{List, [], _∷_, _++_}
+use mathlib.Core.List.{List, [], _∷_}
 use mathlib.Core.Logic.{_≢_}
 use lib.ListN.{length, take, drop, getD, set, length-drop, length-take, take-append-drop}
 use lib.Seq.{sets, set-out, length-sets, getD-drop, drop-drop, take-all}
 use borrow.Author.Tests.{eq-eqb, ne-eqb}
 use Rattle.pair.proofs.Lists.{sets-append, sets-next, part-sets-same}
-use Rattle.batch.specs.declared.Record.{Record}
 use Rattle.batch.specs.Batch.{updates, batchNumber}
 use Rattle.batch.specs.code.Rounds.{reachesFrom, roundReaches}
-use Rattle.batch.specs.code.Search.{recordAt, updateOf}
+use Rattle.batch.specs.code.Search.{recordAt}
 use Rattle.batch.proofs.Annulling.{rounds-few}
 use Rattle.batch.proofs.InOrder.{inOrder}
 use Rattle.batch.proofs.Records.{length-updates, update-at, update-end}

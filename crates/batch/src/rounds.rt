@@ -1,5 +1,5 @@
 // The rounds that a batch annuls: its leading records of kind 3. They start anew in every term, so where they reach to is worked out once in a
-// step, and how many start at or below a position is sought by halving, unless it is as many as at the last question.
+// step, and how many start at or below a position is sought by halving, unless it is as many as at the last question, or one more.
 ghost use mathlib.Core.Path.{_≡_};
 ghost use Prim.Native.Nat.{min, max, _-_, _/_, _≤_, _<_};
 ghost use mathlib.Core.Bool.{_||_};
@@ -106,13 +106,20 @@ fn lesser(a: usize, b: usize) -> usize
     a
 }
 
-// How many of the first records start at or below a position; at is a guess.
+// How many of the first records start at or below a position; at is how many did at the last question.
 pub(crate) fn begun(batch: &[u32], records: usize, at: usize, position: u32) -> usize
     ensures { λ r. ⌜ r ≡ begun (starts (updates (now (batch .entry)))) (min records (length (now (batch .entry)) / 4)) at position ⌝ }
 {
     let records = lesser(records, batch.len() / RECORD_WORDS);
     if stands(batch, records, at, position) {
         return at;
+    }
+    if records <= at {
+        return halve(batch, records, position);
+    }
+    let next = at + 1;
+    if stands(batch, records, next, position) {
+        return next;
     }
     halve(batch, records, position)
 }

@@ -33,9 +33,9 @@ halving xs p (suc turns) low high =
 unfoldable pub stands : List ℕ → ℕ → ℕ → ℕ → Bool
 stands xs n j p = leb j n && (eqb j 0 || leb (getD xs (j - 1) 0) p) && (eqb j n || ltb p (getD xs j 0))
 
--- j where it stands there, else what halving finds
+-- j or the next place where it stands there, else what halving finds
 unfoldable pub begun : List ℕ → ℕ → ℕ → ℕ → ℕ
-begun xs n j p = cond (stands xs n j p) j (halving xs p n 0 n)
+begun xs n j p = cond (stands xs n j p) j (cond (stands xs n (j + 1) p) (j + 1) (halving xs p n 0 n))
 
 -- the first j records reach to p
 unfoldable pub reached : List ℕ → ℕ → ℕ → Bool

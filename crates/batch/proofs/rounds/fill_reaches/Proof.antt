@@ -1,7 +1,6 @@
 -- `batch::rounds::fill_reaches` meets its contract. The invariant of its loop, Filling: the first n are written.
 use Prim.Native.Nat.{_-_, _/_}
 use native.Mathlib.Omega.{arith}
-use mathlib.Core.Path.{_≡_}
 use lib.ListN.{length}
 use Rattle.batch.proofs.Filling.{Filling, filling-start, filling-length, filling-turn, filling-other, filling-end, filling-full}
 use borrow.Author.Needs.{needs}

@@ -1,7 +1,7 @@
 -- `batch::rounds::halve` meets its contract. The invariant of its loop, Halving: what is sought from low to high is what is asked for.
 use Prim.Native.Nat.{_-_}
 use native.Mathlib.Omega.{arith}
-use mathlib.Core.Path.{_≡_, sym}
+use mathlib.Core.Path.{sym}
 use borrow.Author.Tests.{le-leb, lt-leb}
 use Rattle.batch.specs.Batch.{updates}
 use Rattle.batch.specs.code.Rounds.{starts}
