@@ -222,4 +222,9 @@ follows-withdrawn {b} {k} {cursor} f e x l h =
     let us = updates b in
     let a = asked-facts b x e h in
     let n : min (length (roundReaches us)) (length b / 4) ≡ length (roundReaches us) = omega (arith, rounds-few us 0, length-updates b) in
-    rw (f .passes x l, a .0, a .1, n, rounds-reached us (formed-updates b e) (inOrder b e .ordered) (cursor .begun) (position x) (omega arith), any-removes x us)
+    rw (f .passes x l, sought (leb x (asked b x .reach)) _ _ _ _, a .0, a .1, n, rounds-reached us (formed-updates b e) (inOrder b e .ordered) (cursor .begun) (position x) (omega arith), any-removes x us)
+  where
+    -- where a removal of the term reaches to the pair, rounds decide nothing
+    sought : (s : Bool) (ts : List ℕ) (j g p : ℕ) → (s || reached ts (cond s j g) p) ≡ (s || reached ts g p)
+    sought true ts j g p = refl
+    sought false ts j g p = refl

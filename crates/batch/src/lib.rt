@@ -207,14 +207,21 @@ pub fn decide(batch: &[u32], reaches: &[u32], cursor: Cursor, rank: u64) -> Deci
     ensures { λ r. ⌜ r ≡ decided (now (batch .entry)) (now (reaches .entry)) cursor rank ⌝ }
 {
     let passed = pass_to(batch, cursor.passed, rank);
+    let reach = passed.reach;
+    let added = passed.added;
+    if rank <= reach {
+        let begun = cursor.begun;
+        return Decision {
+            cursor: Cursor { passed, begun },
+            withdrawn: rank != added,
+        };
+    }
     let pair = Pair::of_rank(rank);
     let position = pair.position;
     let begun = rounds::begun(batch, reaches.len(), cursor.begun, position);
     let annulled = rounds::reached(reaches, begun, position);
-    let reach = passed.reach;
-    let added = passed.added;
     Decision {
         cursor: Cursor { passed, begun },
-        withdrawn: ((rank <= reach) | annulled) & (rank != added),
+        withdrawn: annulled & (rank != added),
     }
 }

@@ -93,15 +93,13 @@ abbrev pub decision : List ℕ → Cursor → ℕ → Decision
 decision ts k x =
     record { cursor = k; withdrawn = (leb x (k .passed .reach) || reached ts (k .begun) (position x)) && not (eqb x (k .passed .added)) }
 
--- the same behind the further updates, and at the rounds that start at or below its position
+-- the same behind the further updates, and at the rounds that start at or below its position, which are sought where no removal of its
+-- term reaches to it
 unfoldable pub decided : List ℕ → List ℕ → Cursor → ℕ → Decision
 decided b ts k x =
-    decision ts
-    (record {
-      passed = passedTo b (k .passed) x;
-      begun = begun (starts (updates b)) (min (length ts) (length b / 4)) (k .begun) (position x);
-    })
-    x
+    let passed = passedTo b (k .passed) x in
+    let sought = begun (starts (updates b)) (min (length ts) (length b / 4)) (k .begun) (position x) in
+    decision ts (record { passed = passed; begun = cond (leb x (passed .reach)) (k .begun) sought }) x
 
 -- before the first question
 abbrev pub start : Cursor
