@@ -49,13 +49,14 @@ enum {
     GI_CARD_WORDS_MAX = 1050632 /* the largest card: B and N both 1,024 */
 };
 
-/* The records of a batch: kind, term, from, to. */
+/* The records of a batch: kind, term, from, to. Term 0 goes with kind 3 and kind 3
+ * with term 0; from and to are at least 1, and from is not above to. */
 enum {
     GI_RECORD_WORDS = 4,
     GI_BATCH_RECORDS_MAX = 4096,
     GI_RECORD_ADD = 1,    /* adds the pair of term and from; to is from again */
     GI_RECORD_REMOVE = 2, /* removes the term's positions from from to to */
-    GI_RECORD_ANNUL = 3   /* removes the positions from from to to under every term; its own term is 0 */
+    GI_RECORD_ANNUL = 3   /* removes the positions from from to to under every term */
 };
 
 /* The writes of a pass; a step makes one of them. */
@@ -115,10 +116,10 @@ uint32_t gi_judge(const uint32_t *card, size_t card_len);
 
 /* Makes the next write of a pass that applies a batch, and tells which it was.
  * The batch is records of four words, by term, then from, never falling: the
- * index less all that they remove, with all that they add. The card is all that
- * a pass remembers: call it with the same batch until it says finished. Each
- * write must be on the medium before the next step's; a pass cut short anywhere
- * goes on where it was.
+ * index less all that they remove, with all that they add. Records of kind 3 stand
+ * first, since their term is 0. The card is all that a pass remembers: call it with
+ * the same batch until it says finished. Each write must be on the medium before the
+ * next step's; a pass cut short anywhere goes on where it was.
  *
  * Gives the judge's number for a card that is not sound; then 6, then 7 for a
  * batch that is wrong; then 8 where the write of the configuration words to come
