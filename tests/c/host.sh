@@ -109,7 +109,7 @@ pairs() {
                 for (; end - at >= 3 && w[at] != 0; at += 2 + w[at + 1])
                     for (k = 0; k < w[at + 1]; k++)
                         if (w[at] > above_term || (w[at] == above_term && w[at + 2 + k] > above_position))
-                            print w[at], w[at + 2 + k]
+                            printf "%.0f %.0f\n", w[at], w[at + 2 + k]
             }
         }
         END { segment(w[3] + w[4], w[5], 0, 0); segment(w[3], w[4], w[6], w[7]) }'

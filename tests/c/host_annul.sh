@@ -33,7 +33,7 @@ check 'its configuration' [ "$(configuration rounds.card)" = '1 8 5 3 3 0 0 0' ]
 lookup '1 5 9 ' '3 positions, 1 block read' 'term 3 before' rounds.card 3
 lookup '2 6 10 ' '3 positions, 2 blocks read' 'term 5 before' rounds.card 5
 lookup '3 7 ' '2 positions, 1 block read' 'term 7 before' rounds.card 7
-lookup '4 8 12 ' '3 positions, 1 block read' 'term 8 before' rounds.card 8
+lookup '4 8 12 ' '3 positions, 2 blocks read' 'term 8 before' rounds.card 8
 annulled 0 'the second round' rounds.card 5 8
 check 'two blocks and three places freed' grep -q \
     'finished; 6 steps, as many writes (2 blocks, 2 map entries, 2 configurations); 3 old places freed' out
@@ -41,19 +41,20 @@ check 'its words' [ "$(words both.card 0)" = " 1 8 5 1 2 0 0 0 8 4 3 1 7 3 3 1 5
 3 2 1 9 5 2 2 10 7 1 3 8 2 4 12 0 3 3 1 5 9 5 1 2 5 2 6 10 7 2 3 7 " ]
 lookup '1 9 ' '2 positions, 1 block read' 'term 3 after' both.card 3
 lookup '2 10 ' '2 positions, 1 block read' 'term 5 after' both.card 5
-lookup '3 ' '1 position, 1 block read' 'term 7 after' both.card 7
+lookup '3 ' '1 position, 2 blocks read' 'term 7 after' both.card 7
 lookup '4 12 ' '2 positions, 1 block read' 'term 8 after' both.card 8
 lookup '' '0 positions, 1 block read' 'the round after' both.card 5 5 8
 page $'         8          4         12                                 \n' 'a page after' both.card 8
-cp both.card twice.card
-annulled 0 'the second round twice' twice.card 5 8
-check 'nothing more goes' [ "$(pairs both.card)" = "$(pairs twice.card)" ]
+second=$'3 1\n3 9\n5 2\n5 10\n7 3\n8 4\n8 12'
+check 'its pairs' [ "$(pairs both.card)" = "$second" ]
 
 left() { # PAIRS WHAT CARD FROM TO: what an annulment leaves of a card
     annulled 0 "${@:2}"
     check "$2: the pairs" [ "$(pairs both.card)" = "$1" ]
 }
 every=$(pairs rounds.card)
+cp both.card twice.card
+left "$second" 'the second round twice' twice.card 5 8
 left "$(grep -v ' [1-4]$' <<<"$every")" 'the first round' rounds.card 1 4
 left "$(grep -v -e ' 9$' -e ' 1[0-2]$' <<<"$every")" 'the last round' rounds.card 9 12
 left "$(grep -v ' 7$' <<<"$every")" 'one position' rounds.card 7 7
@@ -156,7 +157,7 @@ open_message() { # CARD RANGE
 cp rounds.card open.card
 batch later.batch 1 3 13 13 1 5 14 14 1 7 15 15
 KILL_WRITE=3 KILL_WHEN=synced run_cut 137 'a batch is cut short' apply open.card later.batch
-check 'its pass is open' [ "$(configuration open.card)" = '1 8 5 4 2 1 3 13' ]
+check 'its pass is open' [ "$(configuration open.card)" = '1 8 5 3 3 1 3 13' ]
 still_open 'a batch that was cut short' open.card 5 8
 as_batch 0 'another batch mixed into it' open.card 5 8
 form_of 0 'an annulment mixed into it' 'annul --resume' open.card 5 8
@@ -188,7 +189,7 @@ for write in 1 2; do
     cp rounds.card open.card
     KILL_WRITE=$write KILL_WHEN=synced run_cut 137 "cut at write $write" annul open.card 5 8
     check "cut at write $write: the card has changed" [ "$(cmp open.card rounds.card)" != '' ]
-    left "$(pairs both.card)" "cut at write $write, the same range" open.card 5 8
+    left "$second" "cut at write $write, the same range" open.card 5 8
     left "$(grep -v ' [1-4]$' <<<"$every")" "cut at write $write, another range" open.card 1 4
 done
 
@@ -276,10 +277,13 @@ check 'no card is touched' cmp -s case1.card ./--resume
 check 'nor this one' cmp -s case1.card before.card
 run 0 'a card with the name of the option' annul ./--resume 4 9
 check 'its pairs' [ "$(pairs ./--resume)" = '5 2' ]
-left '5 2' 'figures with zeros before them' case1.card 004 09
+cp case1.card both.card
+run 0 'figures with zeros before them' annul both.card 004 09
+check 'its pairs' [ "$(pairs both.card)" = '5 2' ]
 
 # ---- the medium
 
+rm words.log
 cp rounds.card log.card
 WRITE_LOG=words.log run_cut 0 'the writes of the batch' apply log.card <("$to_words" 3 0 5 8)
 cp rounds.card log.card
@@ -299,7 +303,8 @@ for words in 'annul now/card 5 8' 'annul --resume now/card 5 8'; do
 done
 
 # After every cut either a pass is open, annul refuses and annul --resume leaves the
-# card of an uncut run, or no pass is open and both do.
+# card that uncut runs leave, or no pass is open and both do. A run that finds the
+# pass finished makes another one, whose blocks stand elsewhere.
 cut_short() { # WHAT CARD RANGE
     if [ "$(configuration "$2" | cut -d' ' -f6)" -eq 0 ]; then
         closed_cuts=$((closed_cuts + 1))
@@ -318,21 +323,30 @@ completes() { # WHAT COMMAND CARD RANGE: on a copy of the card
     cp "$3" part.card
     # shellcheck disable=SC2086
     run_cut 0 "$1" $2 part.card $4
-    # where the pass was done, this was another one, and its blocks stand elsewhere
-    if cmp -s "$3" uncut.card; then
-        check "$1: the pairs" [ "$(pairs part.card)" = "$(pairs uncut.card)" ]
-    else
-        check "$1: the card of an uncut run" cmp -s part.card uncut.card
-    fi
+    check "$1: the card of uncut runs" one_of part.card uncut.1 uncut.2 uncut.3
+}
+one_of() { # FILE FILE..: the first is as one of the others
+    local file
+    for file in "${@:2}"; do
+        if cmp -s "$1" "$file"; then return 0; fi
+    done
+    return 1
 }
 annul_cuts() { # CLOSED OPEN WHAT CARD RANGE PAIRS: so many cuts at least leave no pass open, and so many leave one open
+    local before=$4 n
+    for n in 1 2 3; do
+        cp "$before" "uncut.$n"
+        # shellcheck disable=SC2086
+        run_cut 0 "$3: uncut, run $n" annul "uncut.$n" $5
+        before=uncut.$n
+    done
     closed_cuts=0 open_cuts=0
     cuts "${@:3}"
     check "$3: $closed_cuts cuts leave no pass open, at least $1" [ "$closed_cuts" -ge "$1" ]
     check "$3: $open_cuts cuts leave a pass open, at least $2" [ "$open_cuts" -ge "$2" ]
 }
 apply=(annul) resume=(annul --resume)
-annul_cuts 20 20 'the second round, cut' rounds.card '5 8' $'3 1\n3 9\n5 2\n5 10\n7 3\n8 4\n8 12'
+annul_cuts 20 20 'the second round, cut' rounds.card '5 8' "$second"
 annul_cuts 20 20 'nothing, cut' rounds.card '13 99' "$every"
 annul_cuts 1 0 'everything, cut' rounds.card '1 12' ''
 annul_cuts 20 0 'the first and second round, cut' rounds.card '1 8' $'3 9\n5 10\n8 12'

@@ -52,7 +52,6 @@ cuts() { # WHAT CARD BATCH PAIRS
     local -A tried=()
     rm -f log && fresh "$card"
     WRITE_LOG=log run_now 0 "$what: uncut" "${apply[@]}" now/card $batch
-    cp now/card uncut.card
     check "$what: its pairs" [ "$(pairs now/card)" = "$expected" ]
     check "$what: it is on the medium" cmp -s now/card now/medium
     writes=$(grep -c write log)
