@@ -350,7 +350,7 @@ annul_cuts 20 20 'the second round, cut' rounds.card '5 8' "$second"
 annul_cuts 20 20 'nothing, cut' rounds.card '13 99' "$every"
 annul_cuts 1 0 'everything, cut' rounds.card '1 12' ''
 annul_cuts 20 0 'the first and second round, cut' rounds.card '1 8' $'3 9\n5 10\n8 12'
-annul_cuts 20 20 'one position, cut, on a card that was full' tight.card '1 1' "$(pairs tight.card | grep -v ' 1$')"
+annul_cuts 20 20 'one position, cut, where one place is free' tight.card '1 1' "$(pairs tight.card | grep -v ' 1$')"
 
 # ---- the standard streams
 

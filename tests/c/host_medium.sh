@@ -3,8 +3,8 @@
 # A state is a folder: the card file, which is what runs see and what a killed run
 # leaves; the medium; and the writes that are pending (power_cut.c).
 
-# A pass is made with a command, what it is given after the card (a batch, or the ends of a range), and
-# the pairs that it leaves.
+# What a pass is given after the card, the file of a batch or the two ends of a range, is
+# one word here, BATCH, and is split where it is run.
 # shellcheck disable=SC2086
 apply=(apply)  # the command that begins a pass
 resume=(apply) # the one that goes on with it after a cut
