@@ -346,11 +346,11 @@ annul_cuts() { # CLOSED OPEN WHAT CARD RANGE PAIRS: so many cuts at least leave 
     check "$3: $open_cuts cuts leave a pass open, at least $2" [ "$open_cuts" -ge "$2" ]
 }
 apply=(annul) resume=(annul --resume)
-annul_cuts 20 20 'the second round, cut' rounds.card '5 8' "$second"
-annul_cuts 20 20 'nothing, cut' rounds.card '13 99' "$every"
-annul_cuts 1 0 'everything, cut' rounds.card '1 12' ''
-annul_cuts 20 0 'the first and second round, cut' rounds.card '1 8' $'3 9\n5 10\n8 12'
-annul_cuts 20 20 'one position, cut, where one place is free' tight.card '1 1' "$(pairs tight.card | grep -v ' 1$')"
+annul_cuts 30 30 'the second round, cut' rounds.card '5 8' "$second"
+annul_cuts 30 60 'nothing, cut' rounds.card '13 99' "$every"
+annul_cuts 5 0 'everything, cut' rounds.card '1 12' ''
+annul_cuts 30 30 'the first and second round, cut' rounds.card '1 8' $'3 9\n5 10\n8 12'
+annul_cuts 30 30 'one position, cut, where one place is free' tight.card '1 1' "$(pairs tight.card | grep -v ' 1$')"
 
 # ---- the standard streams
 
