@@ -18,14 +18,15 @@ C_FILES = $(wildcard include/*.h host/*.[ch] tests/c/*.[ch] bench/*.[ch])
 .PHONY: help run test pins bench fmt clean
 
 help:
-	@echo 'make run     build the library and the host program; make a card, apply a batch and a text file, look up, print'
+	@echo 'make run     build the library and the host program; make a card, apply a batch and a text file, annul, look up, print'
 	@echo 'make test    run the merge gate, .ci/run'
 	@echo 'make pins    write tests/pins anew, which the gate holds the source to; read its diff'
 	@echo 'make bench   time the judge, pages and scores against plain C, steps and lookups against the judge'
 	@echo 'make fmt     format Rattle, Rust and C files'
 	@echo 'make clean   remove all that was built'
 
-# additions of (5,2), (5,9), (7,4), (8,1) and the removal of 6 from 1 to 9; as text, the removal of 8 from 1 to 9 and the addition of (5,4)
+# additions of (5,2), (5,9), (7,4), (8,1) and the removal of 6 from 1 to 9; as text, the removal of 8 from 1 to 9 and the addition of (5,4);
+# then the removal of 4 to 9 under every term
 run: target/gameindex
 	rm -f target/demo.card
 	tests/c/words.sh  1 5 2 2  1 5 9 9  2 6 1 9  1 7 4 4  1 8 1 1 >target/demo.batch
@@ -39,6 +40,10 @@ run: target/gameindex
 	printf 'R\t8\t1\t9\nA\t5\t4\n' >target/demo.scores
 	target/gameindex apply --text target/demo.card target/demo.scores
 	target/gameindex page target/demo.card 5
+	target/gameindex page target/demo.card 7
+	target/gameindex annul target/demo.card 4 9
+	target/gameindex page target/demo.card 5
+	target/gameindex lookup target/demo.card 7
 
 test:
 	.ci/run

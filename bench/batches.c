@@ -1,7 +1,9 @@
 /* Times a step with batches that try to hold it up, against the judge alone on
- * the same card. The card is 81 full blocks of one term, so that a step which
- * withdraws every pair goes over all of them; the last row is an ordinary step.
- * The two take turns, call by call, and the median of each counts. */
+ * the same card. The cards are 81 full blocks, so that a step which withdraws
+ * every pair goes over all of them; one that withdraws none stops when its block
+ * is full. The last rows are ordinary steps. The two take turns, call by call,
+ * and the median of each counts. */
+#include <stdbool.h>
 #include <stdio.h>
 #include <stdlib.h>
 #include <string.h>
@@ -71,14 +73,137 @@ static void of_a_lower_term(uint32_t i, uint32_t *record) {
     put(record, GI_RECORD_REMOVE, i < GI_BATCH_RECORDS_MAX / 2 ? 1 : TERM, i + 1, GI_HIGHEST);
 }
 
-static void time_batch(const char *name, uint32_t *card, const uint32_t *batch) {
+/* ---- annulments */
+
+static void annul(uint32_t record[GI_RECORD_WORDS], uint32_t from, uint32_t to) {
+    put(record, GI_RECORD_ANNUL, 0, from, to);
+}
+
+static void overlapping_rounds(uint32_t i, uint32_t *record) {
+    annul(record, i + 1, GI_HIGHEST);
+}
+static void nested_rounds(uint32_t i, uint32_t *record) {
+    annul(record, i + 1, GI_HIGHEST - i);
+}
+static void equal_rounds(uint32_t i, uint32_t *record) {
+    (void)i;
+    annul(record, 1, GI_HIGHEST);
+}
+static void narrow_rounds_before_wide(uint32_t i, uint32_t *record) {
+    annul(record, i + 1, i + 1 < GI_BATCH_RECORDS_MAX ? i + 1 : GI_HIGHEST);
+}
+static void narrow_rounds(uint32_t i, uint32_t *record) {
+    annul(record, APART * (i + 1), APART * (i + 1));
+}
+static void rounds_in_gaps(uint32_t i, uint32_t *record) {
+    annul(record, APART * (i + 1) + 1, APART * (i + 1) + 1);
+}
+static void rounds_in_one_gap(uint32_t i, uint32_t *record) {
+    enum { PAIRS_BEFORE = 500 }; /* of the first block */
+    annul(record, APART * PAIRS_BEFORE + 1, APART * PAIRS_BEFORE + 1 + i % 2);
+}
+static void rounds_beyond(uint32_t i, uint32_t *record) {
+    annul(record, GI_HIGHEST - GI_BATCH_RECORDS_MAX + i, GI_HIGHEST - GI_BATCH_RECORDS_MAX + i);
+}
+
+/* On a card of one term, a start every ROUND positions: some 20 pairs. */
+enum { ROUND = 60 };
+
+static void wide_rounds(uint32_t i, uint32_t *record) {
+    annul(record, ROUND * i + 1, GI_HIGHEST);
+}
+static void rounds_side_by_side(uint32_t i, uint32_t *record) {
+    annul(record, ROUND * i + 1, i + 1 < GI_BATCH_RECORDS_MAX ? ROUND * (i + 1) : GI_HIGHEST);
+}
+static void rounds_and_removals(uint32_t i, uint32_t *record) {
+    if (i < GI_BATCH_RECORDS_MAX / 2)
+        annul(record, 2 * ROUND * i + 1, GI_HIGHEST);
+    else
+        put(record, GI_RECORD_REMOVE, TERM, 2 * ROUND * (i - GI_BATCH_RECORDS_MAX / 2) + 1, GI_HIGHEST);
+}
+static void rounds_and_additions(uint32_t i, uint32_t *record) {
+    uint32_t half = GI_BATCH_RECORDS_MAX / 2;
+    uint32_t position = 2 * ROUND * (i % half) + 1;
+    if (i < half)
+        annul(record, position, GI_HIGHEST);
+    else
+        put(record, GI_RECORD_ADD, TERM, position, position);
+}
+
+/* On cards of many terms, parts of LENGTH positions with one between them that is
+ * in none. The positions of the cards lie in these parts. */
+enum { LENGTH = 15, PARTS = GI_BATCH_RECORDS_MAX };
+
+static uint32_t part_start(uint32_t part) {
+    return (LENGTH + 1) * part + 1;
+}
+
+static void parts(uint32_t i, uint32_t *record) {
+    annul(record, part_start(i), part_start(i) + LENGTH - 1);
+}
+static void wide_parts(uint32_t i, uint32_t *record) {
+    annul(record, part_start(i), GI_HIGHEST);
+}
+static void between_parts(uint32_t i, uint32_t *record) {
+    annul(record, part_start(i) + LENGTH, part_start(i) + LENGTH);
+}
+static void later_parts(uint32_t i, uint32_t *record) {
+    annul(record, part_start(i + 1), part_start(i + 1) + LENGTH - 1);
+}
+
+/* ---- positions for them */
+
+/* A position of a part, by chance. */
+static uint32_t in_part(uint32_t part) {
+    static uint32_t state = 2463534242;
+    return part_start(part) + chance(&state) % LENGTH;
+}
+
+static uint32_t the_same(uint32_t term, uint32_t i) {
+    (void)term;
+    return part_start(PARTS / 2) + i;
+}
+static uint32_t by_chance(uint32_t term, uint32_t i) {
+    static uint32_t state = 88675123;
+    (void)term;
+    (void)i;
+    return in_part(chance(&state) % PARTS);
+}
+static uint32_t falling(uint32_t term, uint32_t i) {
+    return part_start(PARTS - 1 - term % PARTS) + i;
+}
+static uint32_t first_and_last(uint32_t term, uint32_t i) {
+    (void)term;
+    return part_start(i == 0 ? 0 : PARTS - 1);
+}
+static uint32_t below_and_above(uint32_t term, uint32_t i) {
+    (void)term;
+    return i == 0 ? 1 : GI_HIGHEST;
+}
+
+/* The positions of a term lie apart by as many parts as there is room for, each
+ * in a part by chance. */
+static uint32_t spread; /* positions of a term */
+
+static uint32_t far_apart(uint32_t term, uint32_t i) {
+    static uint32_t state = 362436069;
+    (void)term;
+    uint32_t band = PARTS / spread;
+    return in_part(band * i + chance(&state) % band);
+}
+
+/* ---- the clock */
+
+/* Gives whether the step finished its pass: nothing remained, so it went over the
+ * whole card. */
+static bool time_batch(const char *name, uint32_t *card, const uint32_t *batch) {
     static double in_step[CALLS];
     static double in_judge[CALLS];
     struct before words = kept(card);
+    uint32_t finished = 0;
     for (int i = 0; i < CALLS; i++) {
         uint32_t write;
         uint32_t freed;
-        uint32_t finished;
         in_judge[i] = timed_judge(card);
         double began = seconds();
         if (gi_step(card, CARD_WORDS, batch, BATCH_WORDS, &write, &freed, &finished) != GI_DONE)
@@ -89,12 +214,80 @@ static void time_batch(const char *name, uint32_t *card, const uint32_t *batch) 
     double step = median(in_step, CALLS);
     double judge = median(in_judge, CALLS);
     printf("%-44s %9.4f %9.4f %9.2f\n", name, step * 1e3, judge * 1e3, step / judge);
+    return finished != 0;
 }
 
-static void time_made(const char *name, uint32_t *card, uint32_t *batch, record_maker *make) {
+static bool time_made(const char *name, uint32_t *card, uint32_t *batch, record_maker *make) {
     for (uint32_t i = 0; i < GI_BATCH_RECORDS_MAX; i++)
         make(i, batch + i * GI_RECORD_WORDS);
-    time_batch(name, card, batch);
+    return time_batch(name, card, batch);
+}
+
+/* Annulments that withdraw every pair. */
+static void time_whole(const char *name, uint32_t *card, uint32_t *batch, record_maker *make) {
+    if (!time_made(name, card, batch, make))
+        give_up("pairs remained");
+}
+
+/* Records that leave a full block. */
+static void time_part(const char *name, uint32_t *card, uint32_t *batch, record_maker *make) {
+    if (time_made(name, card, batch, make))
+        give_up("no pairs remained");
+}
+
+static void heading(const char *cards) {
+    printf("\n%-44s %9s %9s %9s\n", cards, "step", "judge", "ratio");
+}
+
+static void time_one_term(uint32_t *card, uint32_t *batch) {
+    fill_one_term(card, BLOCKS, TERM, APART);
+    heading("annulments of all, on the same card");
+    time_whole("overlapping", card, batch, overlapping_rounds);
+    time_whole("nested", card, batch, nested_rounds);
+    time_whole("equal", card, batch, equal_rounds);
+    time_whole("narrow ones before a wide one", card, batch, narrow_rounds_before_wide);
+    time_whole("wide, starts over all positions", card, batch, wide_rounds);
+    time_whole("side by side over all positions", card, batch, rounds_side_by_side);
+    time_whole("half of them, then removals of the term", card, batch, rounds_and_removals);
+    heading("annulments until a block is full, same card");
+    time_part("half of them, then additions among the pairs", card, batch, rounds_and_additions);
+    time_part("of one position each", card, batch, narrow_rounds);
+    time_part("of nothing, between the positions", card, batch, rounds_in_gaps);
+    time_part("of nothing, between two positions", card, batch, rounds_in_one_gap);
+    time_part("of nothing, beyond the last", card, batch, rounds_beyond);
+}
+
+/* The same records on entries whose positions they all withdraw. */
+static void time_entries(const char *name, uint32_t *card, uint32_t *batch, uint32_t count, position_maker *position) {
+    char row[64];
+    spread = count;
+    fill_entries(card, BLOCKS, count, position);
+    snprintf(row, sizeof row, "%s, narrow", name);
+    time_whole(row, card, batch, parts);
+    snprintf(row, sizeof row, "%s, wide", name);
+    time_whole(row, card, batch, wide_parts);
+}
+
+static void time_many_terms(uint32_t *card, uint32_t *batch) {
+    heading("annulments of all, 81 blocks of many terms");
+    time_entries("one position, the same", card, batch, 1, the_same);
+    time_entries("one position, by chance", card, batch, 1, by_chance);
+    time_entries("one position, falling", card, batch, 1, falling);
+    time_entries("two positions, first and last", card, batch, 2, first_and_last);
+    time_entries("2 positions, far apart", card, batch, 2, far_apart);
+    time_entries("4 positions, far apart", card, batch, 4, far_apart);
+    time_entries("16 positions, far apart", card, batch, 16, far_apart);
+    time_entries("64 positions, far apart", card, batch, 64, far_apart);
+    time_entries("255 positions, far apart", card, batch, 255, far_apart);
+    time_entries("1,022 positions, far apart", card, batch, 1022, far_apart);
+    heading("annulments of nothing, on such blocks");
+    fill_entries(card, BLOCKS, 2, below_and_above);
+    time_part("two positions, below and above", card, batch, later_parts);
+    fill_entries(card, BLOCKS, 1, by_chance);
+    time_part("one position, by chance", card, batch, between_parts);
+    spread = 64;
+    fill_entries(card, BLOCKS, spread, far_apart);
+    time_part("64 positions, far apart", card, batch, between_parts);
 }
 
 int main(void) {
@@ -115,9 +308,14 @@ int main(void) {
     time_made("removals of a lower term, then of the term", card, batch, of_a_lower_term);
     fill_two_terms(card);
     time_made("removals of the last term", card, batch, of_the_last_term);
+    time_one_term(card, batch);
+    time_many_terms(card, batch);
     fill_zipf(card, ORDINARY_BLOCKS);
+    heading("ordinary steps, on 403 blocks");
     zipf_additions(card, ORDINARY_BLOCKS, batch);
-    time_batch("Zipf additions, on 403 blocks", card, batch);
+    time_batch("Zipf additions", card, batch);
+    zipf_annulments(card, ORDINARY_BLOCKS, batch);
+    time_batch("16 annulments and Zipf additions", card, batch);
     free(batch);
     free(card);
     return 0;

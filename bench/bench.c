@@ -138,6 +138,23 @@ void fill_one_term(uint32_t *card, uint32_t live, uint32_t term, uint32_t first)
     must_be_sound(card);
 }
 
+void fill_entries(uint32_t *card, uint32_t live, uint32_t count, position_maker *position) {
+    uint32_t term = 1;
+    start_card(card, live);
+    for (uint32_t k = 0; k < live; k++) {
+        uint32_t place = (OLD_START + k) % PLACES;
+        uint32_t *block = block_at(card, place);
+        for (uint32_t at = 0; at + 2 + count <= BLOCK_WORDS; at += 2 + count, term++) {
+            block[at] = term;
+            block[at + 1] = count;
+            for (uint32_t i = 0; i < count; i++)
+                block[at + 2 + i] = position(term, i);
+        }
+        enter(card, place);
+    }
+    must_be_sound(card);
+}
+
 /* ---- where a term stands */
 
 uint32_t entry_of(const uint32_t *block, uint32_t term) {
@@ -229,4 +246,12 @@ void zipf_batch(uint32_t *card, uint32_t live, uint32_t *batch) {
 
 void zipf_additions(uint32_t *card, uint32_t live, uint32_t *batch) {
     zipf_records(card, live, batch, batch, false);
+}
+
+void zipf_annulments(uint32_t *card, uint32_t live, uint32_t *batch) {
+    enum { ROUNDS = 16, BETWEEN = 1000, GAMES = 40 };
+    uint32_t *record = batch;
+    for (uint32_t from = BETWEEN; from <= ROUNDS * BETWEEN; from += BETWEEN, record += GI_RECORD_WORDS)
+        memcpy(record, (const uint32_t[]){GI_RECORD_ANNUL, 0, from, from + GAMES - 1}, sizeof(uint32_t[4]));
+    zipf_records(card, live, batch, record, false);
 }

@@ -59,6 +59,13 @@ struct holders holders_of(uint32_t *card, uint32_t term);
 /* Fills the live places with one term, from its first position on. */
 void fill_one_term(uint32_t *card, uint32_t live, uint32_t term, uint32_t first);
 
+/* The position with a number, from 0, of a term; the positions of a term rise. */
+typedef uint32_t position_maker(uint32_t term, uint32_t i);
+
+/* Fills the live places with entries of count positions each, as many as have room
+ * in a block, of terms 1, 2, 3 and so on. */
+void fill_entries(uint32_t *card, uint32_t live, uint32_t count, position_maker *position);
+
 /* Fills the live places with terms whose frequency is that of a Zipf law: term t
  * has 1/t of the first term's positions, and at least one. Gives the last term. */
 uint32_t fill_zipf(uint32_t *card, uint32_t live);
@@ -71,6 +78,9 @@ void zipf_batch(uint32_t *card, uint32_t live, uint32_t *batch);
 
 /* The same with additions only. */
 void zipf_additions(uint32_t *card, uint32_t live, uint32_t *batch);
+
+/* The same with 16 annulments, of 40 positions each, before them. */
+void zipf_annulments(uint32_t *card, uint32_t live, uint32_t *batch);
 
 /* The words that a step may write, as they were before it. */
 struct before {

@@ -111,7 +111,14 @@ static int show_end(const struct card_file *card, const struct progress *done) {
     return EXIT_REFUSED;
 }
 
-/* ---- the commands */
+/* Makes the pass of a batch, shows its end and gives the exit status. */
+static int make_pass(const struct card_file *card, const struct batch *batch) {
+    struct progress done = {0};
+    int status = run_pass(card, batch, &done);
+    return status == EXIT_DONE ? show_end(card, &done) : status;
+}
+
+/* ---- apply */
 
 /* Reads the batch of a file and gives the exit status. */
 typedef int batch_reader(struct batch *batch, const char *path);
@@ -122,12 +129,9 @@ static int apply(char **words, batch_reader *read_batch) {
     int status = card_open(&card, words[0], true);
     if (status != EXIT_DONE)
         return status;
-    struct progress done = {0};
     status = read_batch(&batch, words[1]);
     if (status == EXIT_DONE)
-        status = run_pass(&card, &batch, &done);
-    if (status == EXIT_DONE)
-        status = show_end(&card, &done);
+        status = make_pass(&card, &batch);
     int closed = card_close(&card);
     return status != EXIT_DONE ? status : closed;
 }
@@ -138,4 +142,49 @@ int run_apply(char **words) {
 
 int run_apply_text(char **words) {
     return apply(words, scores_read);
+}
+
+/* ---- annul */
+
+/* Refuses a card that is not sound, and one whose pass is open: the card does not
+ * remember the batch of that pass, so another would be mixed into it. */
+static int no_pass_open(const struct card_file *card, uint32_t from, uint32_t to) {
+    uint32_t number = gi_judge(card->words, card->length);
+    if (number != GI_DONE)
+        return refused(card->path, number);
+    if (card->words[GI_CONFIG_NEW_LENGTH] == 0)
+        return EXIT_DONE;
+    printf("%s: refused, a pass is open: finish it with its own batch; if it is this annulment that was cut short, "
+           "annul --resume %s %" PRIu32 " %" PRIu32 " goes on with it\n",
+           card->path, card->path, from, to);
+    return EXIT_REFUSED;
+}
+
+static int annul(char **words, bool resume) {
+    /* one record; its term is 0 */
+    static struct batch batch = {.words = {GI_RECORD_ANNUL, 0}, .length = GI_RECORD_WORDS};
+    uint32_t *from = &batch.words[2];
+    uint32_t *to = &batch.words[3];
+    if (!parse_word(words[1], from) || !parse_word(words[2], to)) {
+        fprintf(stderr, "gameindex: FROM and TO are decimal numbers of 32 bits\n");
+        return EXIT_FAULT;
+    }
+    struct card_file card;
+    int status = card_open(&card, words[0], true);
+    if (status != EXIT_DONE)
+        return status;
+    if (!resume)
+        status = no_pass_open(&card, *from, *to);
+    if (status == EXIT_DONE)
+        status = make_pass(&card, &batch);
+    int closed = card_close(&card);
+    return status != EXIT_DONE ? status : closed;
+}
+
+int run_annul(char **words) {
+    return annul(words, false);
+}
+
+int run_annul_resume(char **words) {
+    return annul(words, true);
 }

@@ -1,7 +1,7 @@
 /* gameindex: the host program of the game index, over libgameindex.a.
  *
- * Exit status: 0 done, 1 the index refused (the number is shown), 2 a file, the
- * output or the command line is at fault. */
+ * Exit status: 0 done, 1 refused (the number is shown, or that a pass is open),
+ * 2 a file, the output or the command line is at fault. */
 #define _POSIX_C_SOURCE 200809L
 
 #include <errno.h>
@@ -132,6 +132,9 @@ static const struct command commands[] = {
     {"apply", NULL, "CARD BATCH", 2, 0, "apply a file of batch words, or - for standard input", run_apply},
     {"apply", "--text", "--text CARD FILE", 2, 0, "apply a scorekeepers' file, or - for standard input",
      run_apply_text},
+    {"annul", NULL, "CARD FROM TO", 3, 0, "remove a range of running numbers under every term", run_annul},
+    {"annul", "--resume", "--resume CARD FROM TO", 3, 0, "go on with such an annulment that was cut short",
+     run_annul_resume},
     {"lookup", NULL, "CARD TERM [FROM TO]", 2, 2, "show a term's running numbers, all or those in a range", run_lookup},
     {"page", NULL, "CARD TERM [FROM TO]", 2, 2, "write the same as a page of text, five to a line", run_page},
     {"judge", NULL, "CARD", 1, 0, "say whether the card is sound", run_judge},
@@ -143,15 +146,17 @@ enum { COMMANDS = sizeof commands / sizeof *commands };
 static void usage(FILE *out) {
     fprintf(out, "usage: gameindex COMMAND CARD ...\n\n");
     for (int i = 0; i < COMMANDS; i++)
-        fprintf(out, "  %-7s %-20s %s\n", commands[i].name, commands[i].words, commands[i].about);
+        fprintf(out, "  %-7s %-21s %s\n", commands[i].name, commands[i].words, commands[i].about);
     fprintf(out,
             "\ncards and batches are files of 32-bit words, little-endian; a batch is records of four: kind (1 adds,\n"
-            "2 removes), term, from, to, by term, then from; an addition has from and to alike\n");
+            "2 removes), term, from, to, by term, then from; an addition has from and to alike; kind 3, with term 0,\n"
+            "removes from from to to under every term\n");
     fprintf(out,
             "\na scorekeepers' file is lines, in any order: A<tab>term<tab>position adds, R<tab>term<tab>from<tab>to "
             "removes\n");
-    fprintf(out, "\nexit status: 0 done, 1 refused (the number is shown), 2 a fault of a file, the output or the "
-                 "command line\n");
+    fprintf(out,
+            "\nexit status: 0 done, 1 refused (the number is shown, or that a pass is open), 2 a fault of a file,\n"
+            "the output or the command line\n");
 }
 
 /* Whether the first words are a command's name and, where it has one, its option. */

@@ -109,7 +109,7 @@ pairs() {
                 for (; end - at >= 3 && w[at] != 0; at += 2 + w[at + 1])
                     for (k = 0; k < w[at + 1]; k++)
                         if (w[at] > above_term || (w[at] == above_term && w[at + 2 + k] > above_position))
-                            print w[at], w[at + 2 + k]
+                            printf "%.0f %.0f\n", w[at], w[at + 2 + k]
             }
         }
         END { segment(w[3] + w[4], w[5], 0, 0); segment(w[3], w[4], w[6], w[7]) }'
@@ -153,7 +153,7 @@ refused() { # NUMBER WHAT CARD BATCH
 }
 batch part.batch 1 5 2
 refused 6 'a batch of three words' case1.card part.batch
-batch kind.batch 3 5 2 2
+batch kind.batch 4 5 2 2
 refused 6 'a record of no kind' case1.card kind.batch
 cp more.batch most.batch # an addition again and again
 for _ in $(seq 12); do cat most.batch most.batch >twice.batch && mv twice.batch most.batch; done
@@ -287,6 +287,8 @@ run 2 'look up in a card in use' lookup case1.card 5
 faulty_page 'a page of a card in use' case1.card 5
 run 2 'apply to a card in use' apply case1.card one.batch
 check 'the message names the use' grep -q 'in use' err
+run 2 'annul on a card in use' annul case1.card 4 9
+check 'the message names the use' grep -q 'in use' err
 exec 3>&-
 check 'the run that waited goes on' wait "$waiting"
 
@@ -296,6 +298,8 @@ check 'the run that waited goes on' wait "$waiting"
 . "$here/host_streams.sh"
 # shellcheck source=tests/c/host_text.sh
 . "$here/host_text.sh"
+# shellcheck source=tests/c/host_annul.sh
+. "$here/host_annul.sh"
 
 # faults of files and of the command line go to stderr
 run 2 'judge a file that is not there' judge none.card
@@ -333,7 +337,7 @@ faulty_page 'a page of three bytes' odd.card 5
 run 2 'an unknown command' frobnicate new.card
 run 2 'no command'
 run 0 'help' help
-check 'seven commands, in columns' [ "$(grep -Ec '^  [a-z ]{7} ([][A-Z ]{20}|--text [][A-Z ]{13}) [a-z]' out)" -eq 7 ]
+check 'nine commands, in columns' [ "$(grep -Ec '^  [a-z ]{7} ([][A-Z ]{21}|--text [A-Z ]{14}|--resume [A-Z ]{12}) [a-z]' out)" -eq 9 ]
 
 echo "$passed passed, $failed failed"
 [ "$failed" -eq 0 ]

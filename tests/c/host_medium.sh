@@ -3,7 +3,11 @@
 # A state is a folder: the card file, which is what runs see and what a killed run
 # leaves; the medium; and the writes that are pending (power_cut.c).
 
-apply=(apply) # the command that the passes are made with
+# What a pass is given after the card, the file of a batch or the two ends of a range, is
+# one word here, BATCH, and is split where it is run.
+# shellcheck disable=SC2086
+apply=(apply)  # the command that begins a pass
+resume=(apply) # the one that goes on with it after a cut
 
 mkdir now killed
 fresh() { # CARD: the state now: card and medium are the card, and nothing is pending
@@ -12,9 +16,10 @@ fresh() { # CARD: the state now: card and medium are the card, and nothing is pe
     : >now/medium.pending
 }
 run_now() { MEDIUM=now/medium run_cut "$@"; } # STATUS WHAT WORDS..: a run in the state now
-kill_now() { # WRITE WHEN WHAT BATCH: a run that is killed at the write
-    KILL_WRITE=$1 KILL_WHEN=$2 run_now 137 "$3: killed" "${apply[@]}" now/card "$4"
+kill_now() { # WRITE WHEN WHAT WORDS..: a run that is killed at the write
+    KILL_WRITE=$1 KILL_WHEN=$2 run_now 137 "$3: killed" "${@:4}"
 }
+cut_short() { :; } # WHAT CARD BATCH: what else is tried on a card that a cut left
 
 # The power fails in the state now, with every choice of what becomes of the
 # pending writes. What is left must be a sound card, and the batch, applied
@@ -33,7 +38,8 @@ power_fails() { # WHAT BATCH PAIRS
         if [ -n "${tried[$bytes]-}" ]; then continue; fi
         tried[$bytes]=yes
         run_cut 0 "$what, choice $choice: sound" judge left.card
-        run_cut 0 "$what, choice $choice: again" "${apply[@]}" left.card "$batch"
+        cut_short "$what, choice $choice" left.card "$batch"
+        run_cut 0 "$what, choice $choice: again" "${resume[@]}" left.card $batch
         check "$what, choice $choice: the pairs" [ "$(pairs left.card)" = "$expected" ]
     done
     check "$what: every choice" [ "$status" -eq 1 -a "$choice" -ge 1 ]
@@ -45,7 +51,7 @@ cuts() { # WHAT CARD BATCH PAIRS
     local what=$1 card=$2 batch=$3 expected=$4 writes write when again
     local -A tried=()
     rm -f log && fresh "$card"
-    WRITE_LOG=log run_now 0 "$what: uncut" "${apply[@]}" now/card "$batch"
+    WRITE_LOG=log run_now 0 "$what: uncut" "${apply[@]}" now/card $batch
     check "$what: its pairs" [ "$(pairs now/card)" = "$expected" ]
     check "$what: it is on the medium" cmp -s now/card now/medium
     writes=$(grep -c write log)
@@ -53,16 +59,17 @@ cuts() { # WHAT CARD BATCH PAIRS
     for write in $(seq "${writes:-0}"); do
         for when in before half after synced; do
             fresh "$card"
-            kill_now "$write" "$when" "$what, write $write, $when" "$batch"
+            kill_now "$write" "$when" "$what, write $write, $when" "${apply[@]}" now/card $batch
             cp now/* killed
+            cut_short "$what, write $write, $when" now/card "$batch"
             power_fails "$what, write $write, $when" "$batch" "$expected"
             rm -f again.log
-            WRITE_LOG=again.log run_now 0 "$what, write $write, $when: again" "${apply[@]}" now/card "$batch"
+            WRITE_LOG=again.log run_now 0 "$what, write $write, $when: again" "${resume[@]}" now/card $batch
             check "$what, write $write, $when: the pairs" [ "$(pairs now/medium)" = "$expected" ]
             if [ "$when" != after ]; then continue; fi
             for again in $(seq "$(grep -c write again.log)"); do
                 cp killed/* now
-                kill_now "$again" after "$what, write $write, then $again" "$batch"
+                kill_now "$again" after "$what, write $write, then $again" "${resume[@]}" now/card $batch
                 power_fails "$what, write $write, then $again" "$batch" "$expected"
             done
         done
@@ -72,10 +79,10 @@ cuts() { # WHAT CARD BATCH PAIRS
     for when in half after; do
         fresh "$card"
         for write in $(seq "${writes:-0}"); do
-            kill_now 1 "$when" "$what, again and again, $when" "$batch"
+            kill_now 1 "$when" "$what, again and again, $when" "${resume[@]}" now/card $batch
             power_fails "$what, again and again, $when" "$batch" "$expected"
         done
-        run_now 0 "$what, again and again, $when: in the end" "${apply[@]}" now/card "$batch"
+        run_now 0 "$what, again and again, $when: in the end" "${resume[@]}" now/card $batch
         check "$what, again and again, $when: the pairs" [ "$(pairs now/medium)" = "$expected" ]
     done
     failing_syncs "$@"
@@ -91,7 +98,7 @@ failing_syncs() { # WHAT CARD BATCH PAIRS
     local what=$1 card=$2 batch=$3 expected=$4 sync write
     for sync in $(seq "$(grep -c -e sync -e folder log)"); do
         rm -f failed.log && fresh "$card"
-        WRITE_LOG=failed.log FAIL_SYNC=$sync run_now 2 "$what, sync $sync fails" "${apply[@]}" now/card "$batch"
+        WRITE_LOG=failed.log FAIL_SYNC=$sync run_now 2 "$what, sync $sync fails" "${apply[@]}" now/card $batch
         says_lost "$what, sync $sync fails"
         check "$what, sync $sync fails: no more is done" \
             [ "$(cat failed.log)" = "$(awk -v n="$sync" '{ if (!/write/ && ++i == n) { print $0, "fails"; exit } print }' log)" ]
@@ -99,8 +106,8 @@ failing_syncs() { # WHAT CARD BATCH PAIRS
     done
     for write in $(seq "$(grep -c write log)"); do
         rm -f failed.log && fresh "$card"
-        kill_now "$write" after "$what, write $write, the next sync fails" "$batch"
-        WRITE_LOG=failed.log FAIL_SYNC=1 run_now 2 "$what, write $write, the next sync fails" "${apply[@]}" now/card "$batch"
+        kill_now "$write" after "$what, write $write, the next sync fails" "${apply[@]}" now/card $batch
+        WRITE_LOG=failed.log FAIL_SYNC=1 run_now 2 "$what, write $write, the next sync fails" "${resume[@]}" now/card $batch
         says_lost "$what, write $write, the next sync fails"
         check "$what, write $write, the next sync fails: no write" [ "$(cat failed.log)" = 'sync fails' ]
         power_fails "$what, write $write, the next sync fails" "$batch" "$expected"
@@ -129,7 +136,7 @@ cuts 'no place to spare' four.card tight.batch $'1 1\n2 1\n5 2\n5 9\n8 1'
 # What a command shows is on the medium, also where the last run was killed.
 shown() { # COMMAND WORDS..
     fresh another.card
-    kill_now 6 after "$1 after a kill" grow.batch
+    kill_now 6 after "$1 after a kill" apply now/card grow.batch
     run_now 0 "$1 after a kill" "$1" now/card "${@:2}"
     check "$1 after a kill: it is on the medium" cmp -s now/card now/medium
     FAIL_SYNC=1 run_now 2 "$1, the sync fails" "$1" now/card "${@:2}"

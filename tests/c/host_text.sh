@@ -180,7 +180,7 @@ check 'no card is made' [ ! -e none.card ]
 
 run 0 'help' help
 mv out usage
-check 'help on the command' grep -qx "  apply   --text CARD FILE     apply a scorekeepers' file, or - for standard input" usage
+check 'help on the command' grep -qx "  apply   --text CARD FILE      apply a scorekeepers' file, or - for standard input" usage
 check 'help on its file' grep -qx "a scorekeepers' file is lines, in any order: A<tab>term<tab>position adds, R<tab>term<tab>from<tab>to removes" usage
 misused() { # WHAT WORDS..: a fault of the command line: the help on standard error alone
     run 2 "$1" "${@:2}"
@@ -210,18 +210,18 @@ WRITE_LOG=refused.log run_cut 1 'the writes of text that is refused' apply --tex
 check 'there are none' [ "$(tr '\n' ',' <refused.log)" = 'sync,folder,' ]
 
 # cuts; and a pass that was cut is completed with the same batch, also in its other form
-apply=(apply --text)
+apply=(apply --text) resume=(apply --text)
 both change <<<$'R 9 1 7\nA 8 9\nR 8 2 2\nR 5 1 5\nA 8 6\nA 1 1\nA 7 9'
 run 0 'grow, as text' apply --text another.card <(tr ' ' '\t' <<<$'A 8 3\nA 8 2\nA 8 1\nA 7 4\nA 5 9\nA 5 2')
 changed=$'1 1\n5 9\n7 4\n7 9\n8 1\n8 3\n8 6\n8 9'
 cuts 'change, as text' another.card change.text "$changed"
 for forms in 'apply --text,change.text,apply,change.batch' 'apply,change.batch,apply --text,change.text'; do
     IFS=, read -r begun first ended second <<<"$forms"
-    read -ra apply <<<"$begun"
+    read -ra begin <<<"$begun"
     read -ra end <<<"$ended"
     for write in 1 2 3 4 5 6; do
         fresh another.card
-        kill_now "$write" after "$begun, write $write" "$first"
+        kill_now "$write" after "$begun, write $write" "${begin[@]}" now/card "$first"
         run_now 0 "$begun, write $write, then $ended" "${end[@]}" now/card "$second"
         check "$begun, write $write, then $ended: the pairs" [ "$(pairs now/medium)" = "$changed" ]
     done
