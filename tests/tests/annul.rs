@@ -317,6 +317,21 @@ struct Met {
 }
 
 impl Met {
+    /// Positions at both ends of a stretch and beside them, and terms that go up and down, came more often than this.
+    fn expect_shapes(&self, least: u64) {
+        for shape in [
+            self.at_from,
+            self.at_to,
+            self.below_from,
+            self.above_to,
+            self.taken_after_a_rise,
+            self.taken_after_a_fall,
+            self.kept_after_a_fall,
+        ] {
+            assert!(shape > least, "a shape came {shape} times: {self:?}");
+        }
+    }
+
     /// Of pairs on a card, before the batch, and the index after it.
     fn note(&mut self, records: &[Record], before: &BTreeSet<Pair>, after: &BTreeSet<Pair>) {
         let froms: BTreeSet<u32> = records.iter().map(|record| record.from).collect();
@@ -462,17 +477,7 @@ fn annul_stretches_of_every_shape() {
     steps.expect(&[0], 10_000);
     tally.expect(&[0], 10_000);
     assert!(by_count.iter().all(|&count| count >= 240));
-    for shape in [
-        met.at_from,
-        met.at_to,
-        met.below_from,
-        met.above_to,
-        met.taken_after_a_rise,
-        met.taken_after_a_fall,
-        met.kept_after_a_fall,
-    ] {
-        assert!(shape > 500, "a shape came {shape} times: {met:?}");
-    }
+    met.expect_shapes(500);
     assert!(met.none_taken > 100 && met.kept_by_an_addition > 500);
 }
 
@@ -512,19 +517,8 @@ fn annul_on_many_small_cards() {
     steps.report("annul_on_many_small_cards");
     println!("annul_on_many_small_cards: {met:?}");
     steps.expect(&[0], 10_000);
-    for shape in [
-        met.at_from,
-        met.at_to,
-        met.below_from,
-        met.above_to,
-        met.taken_after_a_rise,
-        met.taken_after_a_fall,
-        met.kept_after_a_fall,
-        met.none_taken,
-        met.all_taken,
-    ] {
-        assert!(shape > 100, "a shape came {shape} times: {met:?}");
-    }
+    met.expect_shapes(100);
+    assert!(met.none_taken > 100 && met.all_taken > 100);
 }
 
 /// Passes that change their batch on the way, with removals under every term before, after or on both
