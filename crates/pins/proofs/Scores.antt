@@ -181,6 +181,7 @@ pub record OutcomesComputed : Type 0 where
   pub of-none : outcome [] ≡ Finished 1
   pub of-one : outcome (65 ∷ 9 ∷ 53 ∷ 9 ∷ 50 ∷ 10 ∷ []) ≡ Finished 3
   pub of-zero : outcome (65 ∷ 9 ∷ 48 ∷ 9 ∷ 50 ∷ []) ≡ Refused 6
+  pub of-every-term : outcome (82 ∷ 9 ∷ 48 ∷ 9 ∷ 50 ∷ 9 ∷ 52 ∷ []) ≡ Refused 6
   pub of-empty-line : outcome (10 ∷ []) ≡ Refused 12
   -- D, tab, 1 and N, tab, 12
   pub print-finished : printed (Finished 1) ≡ 68 ∷ 9 ∷ 49 ∷ 10 ∷ []
@@ -189,4 +190,12 @@ pub record OutcomesComputed : Type 0 where
 pub outcomes-computed : OutcomesComputed
 unfolding keep above within risingFrom insert last any same firstOf zeros pairsFrom pairs formedFrom formed leading packedAfter blockOf fitting due goesOn widthOf firstPair place around pairsAt live formatNumber formatted blocksSound firstReaches boundaryAgrees segmentsSound judged updates anyUpdate adds removes withdrawn withAdded applied illFormed falls batchNumber remains duePlace spent configured nextBoundary freed grown configuration dueBlock dueEntry nextWrite theWrite crowded stepNumber taken refused step blocksFrom blocks stepLimit lastFigures decimal isFigure allFigures worth isNumber laid keyAt placed sorted longer lines fields recordOf lineRecord lineNumber faultFrom fault lineRecords batchOf freshCard passFrom stepsMost pass outcome printedLine printed
 outcomes-computed =
-    record { of-none = refl; of-one = refl; of-zero = refl; of-empty-line = refl; print-finished = refl; print-refused = refl }
+    record {
+      of-none = refl;
+      of-one = refl;
+      of-zero = refl;
+      of-every-term = refl;
+      of-empty-line = refl;
+      print-finished = refl;
+      print-refused = refl;
+    }
