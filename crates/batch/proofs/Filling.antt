@@ -84,13 +84,24 @@ module _ {b l now : List ℕ} {reach n : ℕ} (f : Filling b l now reach n) wher
       let first : length (take n all) ≡ n = length-take n all ∙ omega (arith, f .few) in
       (omega (arith, full, f .few), sym (ap (sets l 0) (sym (take-append-drop n all)) ∙ (sets-append (take n all) (drop n all) l 0 ∙ (sets-out (sets l 0 (take n all)) _ (drop n all) (omega (arith, length-sets l 0 (take n all), full, first)) ∙ sym (f .written)))))
 
--- in a table with room for the records of a batch in order, what is written is all of it
+-- a batch in order has no more rounds than records
+pub rounds-most : (b : List ℕ) → batchNumber b ≡ 0 → length (roundReaches (updates b)) ≤ 4096
+rounds-most b o = omega (arith, rounds-few (updates b) 0, length-updates b, inOrder b o .few)
+
+-- where a table with room for one got none there is none
+pub filled-none : (b : List ℕ) (n : ℕ) → n ≡ min 1 (length (roundReaches (updates b))) → n ≡ 0 → [] ≡ roundReaches (updates b)
+filled-none b n e z = go (roundReaches (updates b)) (omega arith)
+  where
+    go : (ts : List ℕ) → length ts ≡ 0 → [] ≡ ts
+    go [] h = refl
+    go (t ∷ ts) h = absurd (omega arith)
+
+-- in a table with room for all of them what is written is all
 module _ (b l : List ℕ) {now : List ℕ} {n : ℕ} (e : n ≡ min (length l) (length (roundReaches (updates b)))) (w : now ≡ sets l 0 (roundReaches (updates b))) where
   pub filled-few : n ≤ length now
   filled-few = rw (w, length-sets l 0 (roundReaches (updates b))) (omega arith)
 
-  pub filled-whole : batchNumber b ≡ 0 → length l ≡ 4096 → take n now ≡ roundReaches (updates b)
-  filled-whole o h =
-      let few : length (roundReaches (updates b)) ≤ length l = omega (arith, rounds-few (updates b) 0, length-updates b, inOrder b o .few) in
+  pub filled-whole : length (roundReaches (updates b)) ≤ length l → take n now ≡ roundReaches (updates b)
+  filled-whole h =
       let m : n ≡ length (roundReaches (updates b)) = omega arith in
       rw (m, w) (part-sets-same (roundReaches (updates b)) l 0 (omega arith))

@@ -227,8 +227,8 @@ fn plan(card: &[u32], words: &mut [u32], due: Due) -> WritePlan
     settle(words, k, due, freed, grown)
 }
 
-// Makes the next write of a sound card with a batch in order, in as many words of room as a block has.
-fn advance(card: &mut [u32], batch: &[u32], reaches: &[u32], words: &mut [u32]) -> StepAnswer
+// Makes the next write of a sound card with a batch in order, in as many words of room as a block has, with where the batch's rounds reach to.
+fn advance_with(card: &mut [u32], batch: &[u32], reaches: &[u32], words: &mut [u32]) -> StepAnswer
     requires { ⌜ judged (now card) ≡ 0 ⌝ }
     requires { ⌜ batchNumber (now batch) ≡ 0 ⌝ }
     requires { ⌜ now reaches ≡ roundReaches (updates (now batch)) ⌝ }
@@ -241,6 +241,22 @@ fn advance(card: &mut [u32], batch: &[u32], reaches: &[u32], words: &mut [u32]) 
     let count = plan.count;
     write(card, start, &words[..count]);
     plan.answer
+}
+
+// The same, and works out where the rounds reach to; a table for them is made only where there are some.
+fn advance(card: &mut [u32], batch: &[u32], words: &mut [u32]) -> StepAnswer
+    requires { ⌜ judged (now card) ≡ 0 ⌝ }
+    requires { ⌜ batchNumber (now batch) ≡ 0 ⌝ }
+    requires { ⌜ now words ≡ replicate (blockSize (now card)) 0 ⌝ }
+    ensures { λ r. ⌜ (r ≡ answerOf (step (now (card .entry)) (now (batch .entry)))) × (now (card .exit) ≡ step (now (card .entry)) (now (batch .entry)) .card) ⌝ }
+{
+    let mut first = [0u32; 1];
+    if rounds::fill_reaches(batch, &mut first) == 0 {
+        return advance_with(card, batch, &first[..0], words);
+    }
+    let mut reaches = [0u32; RECORDS_MOST];
+    let count = rounds::fill_reaches(batch, &mut reaches);
+    advance_with(card, batch, &reaches[..count], words)
 }
 
 // One step of a pass over a card with a batch.
@@ -258,7 +274,5 @@ pub fn step(card: &mut [u32], batch: &[u32]) -> StepAnswer
     let k = Configuration::of(card);
     let size = k.size as usize;
     let mut buffer = [0u32; WORDS_MOST];
-    let mut reaches = [0u32; RECORDS_MOST];
-    let rounds = rounds::fill_reaches(batch, &mut reaches);
-    advance(card, batch, &reaches[..rounds], &mut buffer[..size])
+    advance(card, batch, &mut buffer[..size])
 }

@@ -1,51 +1,31 @@
--- `update::advance` meets its contract: the planned write is the step's, and the card is left with it made.
-use native.Mathlib.Omega.{arith}
-use mathlib.Core.Path.{sym, ap, _∙_}
-use denote.Ref.{now}
-use lib.ListN.{length}
+-- `update::advance` meets its contract: with no rounds there is no table, else where they reach to is all in it.
+use Prim.Native.Nat.{ℕ}
+use mathlib.Core.Path.{sym}
+use lib.ListN.{length-replicate}
 use lib.Seq.{length-take-le}
-use Rattle.pair.specs.Rank.{Words}
-use Rattle.card.proofs.Facts.{facts}
-use Rattle.update.specs.Step.{remains, step}
-use Rattle.update.specs.code.Plan.{PlanOf}
-use Rattle.update.proofs.Next.{remaining}
-use Rattle.update.proofs.Steps.{step-sound, step-writes}
-use Rattle.update.proofs.Writes.{length-due-block}
+use Rattle.batch.proofs.Filling.{rounds-most, filled-none, filled-few, filled-whole}
 use borrow.Author.Needs.{needs}
 use Rattle.update.proofs.advance.Statement.{statement}
 use Rattle.update.proofs.advance.Tie as tie
 
-abbrev S : tie.After-fill → tie.Start
-S c = c .before .before .before .before .before .before .before
+slice-aggregate-fill-reaches : tie.Need-slice-aggregate-fill-reaches
+slice-aggregate-fill-reaches c = search needs
 
-abbrev F : tie.After-plan → tie.After-fill
-F c = c .before .before .before .before .before
+fill-reaches-requires : tie.Need-fill-reaches-requires
+fill-reaches-requires c κs = search needs
 
--- what is planned is the step
-planned : (c : tie.After-plan) → let s = S (F c) in PlanOf (now (s .args .card)) (step (now (s .args .card)) (now (s .args .batch))) (c .plan .last .1 .0) (c .plan .result)
-unfolding Words
-planned c =
-    let f = F c in
-    let s = S f in
-    let w = now (s .args .card) in
-    let b = now (s .args .batch) in
-    let m = remaining w b (facts w (s .pre .0)) (λ i. omega (arith, f .before .before .before .before .before .before .slice-known .given i)) (λ i. omega (arith, f .before .before .before .before .before .shared-slice-known .given i)) (s .pre .1 .0) in
-    rw (step-sound w b (s .pre .0) (s .pre .1 .0)) (c .plan .ensures .of (remains w b) (m .proper) (f .fill .ensures))
+array-share-prefix-first : tie.Need-array-share-prefix-first
+array-share-prefix-first c = search needs
 
-fill-requires : tie.Need-fill-requires
-fill-requires c κs = search needs
+slice-aggregate-advance-with : tie.Need-slice-aggregate-advance-with
+slice-aggregate-advance-with c = search needs
 
-plan-requires : tie.Need-plan-requires
-plan-requires c κs = let f = c .before .before .before .before in (S f .pre .0, ap length (f .fill .ensures .block) ∙ length-due-block _ _)
-
-slice-reshare-prefix-write : tie.Need-slice-reshare-prefix-write
-slice-reshare-prefix-write c = search needs
-
-slice-aggregate-write : tie.Need-slice-aggregate-write
-slice-aggregate-write c = let p = c .before .before .before .before in sym (length-take-le _ (p .plan .last .1 .0) (p .plan .ensures .few))
-
-write-requires : tie.Need-write-requires
-write-requires c κs = let p = c .before .before .before .before in rw (length-take-le (p .plan .result .count) (p .plan .last .1 .0) (p .plan .ensures .few)) (planned p .inside)
+advance-with-requires : tie.Need-advance-with-requires
+advance-with-requires c κs =
+    let t = c .before .before .before in
+    let f = t .before .before in
+    let s = f .before .before .before .before .before in
+    (s .pre .0, (s .pre .1 .0, (filled-none _ _ (f .fill-reaches .ensures .0) (t .if1 .taken), s .pre .1 .1)))
 
 same-length : tie.Need-same-length
 same-length c = search needs
@@ -54,20 +34,53 @@ same-length-2 : tie.Need-same-length-2
 same-length-2 c = search needs
 
 returns : tie.Need-returns
-returns c = let p = c .before .before .before .before .before .before .before in
-    let s = S (F p) in
-    let q = planned p in
-    (q .answer, c .before .before .write .ensures ∙ rw (q .start, q .words) (sym (step-writes (now (s .args .card)) (now (s .args .batch)))))
+returns c = search needs
+
+slice-aggregate-fill-reaches-2 : tie.Need-slice-aggregate-fill-reaches-2
+slice-aggregate-fill-reaches-2 c = search needs
+
+fill-reaches-requires-2 : tie.Need-fill-reaches-requires-2
+fill-reaches-requires-2 c κs = search needs
+
+array-share-prefix-reaches : tie.Need-array-share-prefix-reaches
+array-share-prefix-reaches c = search needs
+
+slice-aggregate-advance-with-2 : tie.Need-slice-aggregate-advance-with-2
+slice-aggregate-advance-with-2 c = let f = c .before .before .before .fill-reaches2 in sym (length-take-le _ _ (filled-few _ _ (f .ensures .0) (f .ensures .1)))
+
+advance-with-requires-2 : tie.Need-advance-with-requires-2
+advance-with-requires-2 c κs =
+    let t = c .before .before .before .before in
+    let s = t .before .before .before .before .before .before .before .before .before in
+    let f = t .fill-reaches2 in
+    (s .pre .0, (s .pre .1 .0, (filled-whole _ _ (f .ensures .0) (f .ensures .1) (rw (length-replicate {A = ℕ} 4096 0) (rounds-most _ (s .pre .1 .0))), s .pre .1 .1)))
+
+same-length-3 : tie.Need-same-length-3
+same-length-3 c = search needs
+
+same-length-4 : tie.Need-same-length-4
+same-length-4 c = search needs
+
+returns-2 : tie.Need-returns-2
+returns-2 c = search needs
 
 pub advance-spec : {M : Type 1} → statement M
 advance-spec =
     tie.close
     (tie.spec
-    fill-requires
-    plan-requires
-    slice-reshare-prefix-write
-    slice-aggregate-write
-    write-requires
+    slice-aggregate-fill-reaches
+    fill-reaches-requires
+    array-share-prefix-first
+    slice-aggregate-advance-with
+    advance-with-requires
     same-length
     same-length-2
-    returns)
+    returns
+    slice-aggregate-fill-reaches-2
+    fill-reaches-requires-2
+    array-share-prefix-reaches
+    slice-aggregate-advance-with-2
+    advance-with-requires-2
+    same-length-3
+    same-length-4
+    returns-2)

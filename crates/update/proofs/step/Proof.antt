@@ -10,7 +10,6 @@ use Rattle.card.specs.Layout.{blockSize}
 use Rattle.card.specs.Sound.{judged}
 use Rattle.card.proofs.Facts.{Facts, facts}
 use Rattle.batch.specs.Batch.{batchNumber}
-use Rattle.batch.proofs.Filling.{filled-few, filled-whole}
 use Rattle.update.specs.Step.{refused}
 use Rattle.update.proofs.Steps.{step-judged, step-unordered, answer-refused, answered-as}
 use borrow.Author.Needs.{needs}
@@ -76,33 +75,16 @@ of-requires c κs = search needs
 cast-size : tie.Need-cast-size
 cast-size c = search needs
 
-slice-aggregate-fill-reaches : tie.Need-slice-aggregate-fill-reaches
-slice-aggregate-fill-reaches c = search needs
-
-fill-reaches-requires : tie.Need-fill-reaches-requires
-fill-reaches-requires c κs = search needs
-
-array-share-prefix-reaches : tie.Need-array-share-prefix-reaches
-array-share-prefix-reaches c = search needs
-
-few : (c : tie.After-fill-reaches) → c .fill-reaches .result ≤ length (c .fill-reaches .last .1 .0)
-few c = filled-few _ _ (c .fill-reaches .ensures .0) (c .fill-reaches .ensures .1)
+array-borrow-prefix-buffer : tie.Need-array-borrow-prefix-buffer
+array-borrow-prefix-buffer c = let k = c .before .before in omega (arith, size k, F (k .before .before) .sizeHigh)
 
 slice-aggregate-advance : tie.Need-slice-aggregate-advance
-slice-aggregate-advance c = let f = c .before .before .before in sym (length-take-le _ _ (few f))
-
-array-borrow-prefix-buffer : tie.Need-array-borrow-prefix-buffer
-array-borrow-prefix-buffer c = let k = c .before .before .before .before .before .before in omega (arith, size k, F (k .before .before) .sizeHigh)
-
-slice-aggregate-advance-2 : tie.Need-slice-aggregate-advance-2
-slice-aggregate-advance-2 c = let k = c .before .before .before .before .before .before .before in buffer-count _ 1024 (omega (arith, size k, F (k .before .before) .sizeHigh))
+slice-aggregate-advance c = let k = c .before .before .before in buffer-count _ 1024 (omega (arith, size k, F (k .before .before) .sizeHigh))
 
 advance-requires : tie.Need-advance-requires
-advance-requires c κs =
-    let f = c .before .before .before .before in
-    let k = f .before .before .before in
+advance-requires c κs = let k = c .before .before .before in
     let e = k .before .before in
-    (J e, (N e, (filled-whole _ _ (f .fill-reaches .ensures .0) (f .fill-reaches .ensures .1) (N e) (length-replicate {A = ℕ} 4096 0), rw (size k) (buffer-zeros _ 1024 (F e .sizeHigh)))))
+    (J e, (N e, rw (size k) (buffer-zeros _ 1024 (F e .sizeHigh))))
 
 same-length-3 : tie.Need-same-length-3
 same-length-3 c = search needs
@@ -122,12 +104,8 @@ step-spec =
     returns-2
     of-requires
     cast-size
-    slice-aggregate-fill-reaches
-    fill-reaches-requires
-    array-share-prefix-reaches
-    slice-aggregate-advance
     array-borrow-prefix-buffer
-    slice-aggregate-advance-2
+    slice-aggregate-advance
     advance-requires
     same-length-3
     returns-3)
