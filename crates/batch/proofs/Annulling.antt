@@ -201,7 +201,13 @@ unfolding starts startingTo falls
 starting-halved [] a p j o h = omega (arith, h .inside)
 starting-halved (u ∷ us) a p zero o h = rw (lt-ltb p (rank (u .term) (u .from)) (h .beyond (omega arith)))
 starting-halved (u ∷ us) a p (suc j) o h =
-    rw (le-ltb p here (begins j (h .below) (h .inside))) (ap suc (starting-halved us here p j o' (record { order = omega arith; inside = omega (arith, h .inside); below = below j (h .below); beyond = λ l. h .beyond (omega arith) })))
+    rw (le-ltb p here (begins j (h .below) (h .inside)))
+    (ap suc (starting-halved us here p j o' (record {
+      order = omega arith;
+      inside = omega (arith, h .inside);
+      below = below j (h .below);
+      beyond = λ l. h .beyond (omega arith);
+    })))
   where
     here : ℕ
     here = rank (u .term) (u .from)
@@ -251,16 +257,19 @@ reaches-at (u ∷ us) k i f l = go (eqb (u .kind) 3) refl l (λ j. reaches-at us
     greater true e t = omega (arith, ltb-true k high e)
     greater false e t = omega (arith, ltb-false k high e)
 
-    at : (j : ℕ) → eqb (u .kind) 3 ≡ true → j < suc (length (reachesFrom far us)) →
-        ((i : ℕ) → i < length (reachesFrom far us) → getD (reachesFrom far us) i 0 ≡ reachOf 3 far (take (suc i) us)) →
-        getD (far ∷ reachesFrom far us) j 0 ≡ reachOf 3 far (take j us)
-    at zero e m ih = refl
-    at (suc j) e m ih = ih j (omega arith)
+    rest : List ℕ
+    rest = reachesFrom far us
 
-    go : (s : Bool) → eqb (u .kind) 3 ≡ s → i < length (cond s (far ∷ reachesFrom far us) []) →
-        ((j : ℕ) → j < length (reachesFrom far us) → getD (reachesFrom far us) j 0 ≡ reachOf 3 far (take (suc j) us)) →
-        getD (cond s (far ∷ reachesFrom far us) []) i 0 ≡ reachOf 3 (cond (s && ltb k high) high k) (take i us)
-    go true e m ih = rw (greater (ltb k high) refl (f .0 .termNone (eqb-true (u .kind) 3 e))) (at i e m ih)
+    Rest : Type 0
+    Rest = (j : ℕ) → j < length rest → getD rest j 0 ≡ reachOf 3 far (take (suc j) us)
+
+    at : (j : ℕ) → j < suc (length rest) → Rest → getD (far ∷ rest) j 0 ≡ reachOf 3 far (take j us)
+    at zero m ih = refl
+    at (suc j) m ih = ih j (omega arith)
+
+    go : (s : Bool) → eqb (u .kind) 3 ≡ s → i < length (cond s (far ∷ rest) []) → Rest →
+        getD (cond s (far ∷ rest) []) i 0 ≡ reachOf 3 (cond (s && ltb k high) high k) (take i us)
+    go true e m ih = rw (greater (ltb k high) refl (f .0 .termNone (eqb-true (u .kind) 3 e))) (at i m ih)
     go false e m ih = absurd (omega arith)
 
 -- there are no more of them than records, and behind them a record of a term starts
@@ -269,7 +278,10 @@ unfolding reachesFrom
 rounds-few [] k = zero-le
 rounds-few (u ∷ us) k = go (eqb (u .kind) 3) (rounds-few us (max k (u .to)))
   where
-    go : (s : Bool) → length (reachesFrom (max k (u .to)) us) ≤ length us → length (cond s (max k (u .to) ∷ reachesFrom (max k (u .to)) us) []) ≤ suc (length us)
+    rest : List ℕ
+    rest = reachesFrom (max k (u .to)) us
+
+    go : (s : Bool) → length rest ≤ length us → length (cond s (max k (u .to) ∷ rest) []) ≤ suc (length us)
     go true ih = omega arith
     go false ih = zero-le
 
@@ -278,12 +290,12 @@ unfolding reachesFrom starts
 rounds-beyond [] k f l = absurd (omega arith)
 rounds-beyond (u ∷ us) k f l = go (eqb (u .kind) 3) refl l (rounds-beyond us (max k (u .to)) (f .1))
   where
-    At : ℕ → Type 0
-    At n = n < suc (length (starts us)) → wordLimit ≤ getD (rank (u .term) (u .from) ∷ starts us) n 0
+    rest : List ℕ
+    rest = reachesFrom (max k (u .to)) us
 
-    go : (s : Bool) → eqb (u .kind) 3 ≡ s → length (cond s (max k (u .to) ∷ reachesFrom (max k (u .to)) us) []) < suc (length (starts us)) →
-        (length (reachesFrom (max k (u .to)) us) < length (starts us) → wordLimit ≤ getD (starts us) (length (reachesFrom (max k (u .to)) us)) 0) →
-        wordLimit ≤ getD (rank (u .term) (u .from) ∷ starts us) (length (cond s (max k (u .to) ∷ reachesFrom (max k (u .to)) us) [])) 0
+    go : (s : Bool) → eqb (u .kind) 3 ≡ s → length (cond s (max k (u .to) ∷ rest) []) < suc (length (starts us)) →
+        (length rest < length (starts us) → wordLimit ≤ getD (starts us) (length rest) 0) →
+        wordLimit ≤ getD (rank (u .term) (u .from) ∷ starts us) (length (cond s (max k (u .to) ∷ rest) [])) 0
     go true e m ih = ih (omega arith)
     go false e m ih = let t : 1 ≤ u .term = f .0 .termLow (eqb-false (u .kind) 3 e) in omega arith
 

@@ -1,25 +1,20 @@
 -- Filling the table of where the rounds reach to.
-use Prim.Native.Nat.{ℕ, suc, min, max, _+_, _-_, _/_, _≤_, _<_, zero-le}
+use Prim.Native.Nat.{ℕ, min, max, _+_, _-_, _/_, _≤_, _<_, zero-le}
 use native.Mathlib.Nat.{add-zero}
 use native.Mathlib.Omega.{arith}
 use mathlib.Core.Path.{_≡_, refl, sym, ap, ap₂, _∙_}
 use mathlib.Core.List.{List, [], _∷_}
 use mathlib.Core.Logic.{_≢_}
 use lib.ListN.{length, take, drop, getD, set, length-drop, length-take, take-append-drop}
-use lib.Seq.{sets, set-out, length-sets, getD-drop, drop-drop, take-all}
+use lib.Seq.{sets, length-sets, getD-drop, drop-drop, take-all}
 use borrow.Author.Tests.{eq-eqb, ne-eqb}
-use Rattle.pair.proofs.Lists.{sets-append, sets-next, part-sets-same}
+use Rattle.pair.proofs.Lists.{sets-append, sets-next, sets-out, part-sets-same}
 use Rattle.batch.specs.Batch.{updates, batchNumber}
 use Rattle.batch.specs.code.Rounds.{reachesFrom, roundReaches}
 use Rattle.batch.specs.code.Search.{recordAt}
 use Rattle.batch.proofs.Annulling.{rounds-few}
 use Rattle.batch.proofs.InOrder.{inOrder}
 use Rattle.batch.proofs.Records.{length-updates, update-at, update-end}
-
--- words written beyond the end
-sets-out : (l : List ℕ) (i : ℕ) (vs : List ℕ) → length l ≤ i → sets l i vs ≡ l
-sets-out l i [] h = refl
-sets-out l i (v ∷ vs) h = rw (set-out l i v h) (sets-out l (suc i) vs (omega arith))
 
 -- the first n are written, and the rest is to come from where these reach to
 pub record Filling (b l now : List ℕ) (reach n : ℕ) : Type 0 where
@@ -65,24 +60,29 @@ module _ {b l now : List ℕ} {reach n : ℕ} (f : Filling b l now reach n) wher
       zero-first : 0 + n ≡ n
       zero-first = omega arith
 
-  -- the answer where no more of kind 3 are to come
-  ended : drop n all ≡ [] → (n ≡ min (length l) (length all)) × (now ≡ sets l 0 all)
+  -- the answer: all of them are written, or as many as there is room for
+  abbrev Filled : Type 0
+  Filled = (n ≡ min (length l) (length all)) × (now ≡ sets l 0 all)
+
+  -- where no more of kind 3 are to come
+  ended : drop n all ≡ [] → Filled
   ended e =
       let n' : length all ≡ n = omega (arith, length-drop n all, ap length e, f .few) in
       (omega (arith, n', f .fits), f .written ∙ ap (sets l 0) (take-all n all (omega (arith, n'))))
 
-  pub filling-other : n < length b / 4 → recordAt b n .kind ≢ 3 → (n ≡ min (length l) (length all)) × (now ≡ sets l 0 all)
+  pub filling-other : n < length b / 4 → recordAt b n .kind ≢ 3 → Filled
   filling-other h k = ended (f .rest ∙ (unfold reachesFrom in rw (update-at b n h, ne-eqb (recordAt b n .kind) 3 k)))
 
-  pub filling-end : length b / 4 ≤ n → (n ≡ min (length l) (length all)) × (now ≡ sets l 0 all)
+  pub filling-end : length b / 4 ≤ n → Filled
   filling-end h = ended (f .rest ∙ (unfold reachesFrom in rw (update-end b n h)))
 
   -- and where the table is full
-  pub filling-full : n ≡ length now → (n ≡ min (length l) (length all)) × (now ≡ sets l 0 all)
+  pub filling-full : n ≡ length now → Filled
   filling-full e =
       let full : length l ≡ n = sym (e ∙ filling-length f) in
       let first : length (take n all) ≡ n = length-take n all ∙ omega (arith, f .few) in
-      (omega (arith, full, f .few), sym (ap (sets l 0) (sym (take-append-drop n all)) ∙ (sets-append (take n all) (drop n all) l 0 ∙ (sets-out (sets l 0 (take n all)) _ (drop n all) (omega (arith, length-sets l 0 (take n all), full, first)) ∙ sym (f .written)))))
+      let behind = sets-out (sets l 0 (take n all)) (0 + length (take n all)) (drop n all) (omega (arith, length-sets l 0 (take n all), full, first)) in
+      (omega (arith, full, f .few), sym (ap (sets l 0) (sym (take-append-drop n all)) ∙ (sets-append (take n all) (drop n all) l 0 ∙ (behind ∙ sym (f .written)))))
 
 -- a batch in order has no more rounds than records
 pub rounds-most : (b : List ℕ) → batchNumber b ≡ 0 → length (roundReaches (updates b)) ≤ 4096

@@ -7,7 +7,7 @@ use native.Mathlib.Nat.{add-zero, mul-le-mul-right}
 use native.Mathlib.Numerals.{add-one}
 use native.Mathlib.Omega.{arith}
 use lib.ListN.{length, take, drop, getD, set, length-take, length-drop}
-use lib.Seq.{sets, set-set, set-comm, sets-eq, take-nil, take-suc, take-set-le, drop-set-add, drop-set-lt, take-at, drop-at, length-take-le, getD-drop, getD-take}
+use lib.Seq.{sets, set-out, set-set, set-comm, sets-eq, take-nil, take-suc, take-set-le, drop-set-add, drop-set-lt, take-at, drop-at, length-take-le, getD-drop, getD-take}
 use lib.Dec.{ltb}
 use borrow.Author.Tests.{ltb-true, ltb-false}
 
@@ -38,6 +38,11 @@ pub sets-next : (xs l : List ℕ) (p j : ℕ) → j < length xs → set (sets l 
 sets-next xs l p j h =
     let n : length (take j xs) ≡ j = length-take-le j xs (omega arith) in
     rw (add-one j, take-suc xs j 0 h) (sym (sets-append (take j xs) (getD xs j 0 ∷ []) l p ∙ rw n))
+
+-- Words written beyond the end change nothing.
+pub sets-out : (l : List ℕ) (i : ℕ) (vs : List ℕ) → length l ≤ i → sets l i vs ≡ l
+sets-out l i [] h = refl
+sets-out l i (v ∷ vs) h = rw (set-out l i v h) (sets-out l (suc i) vs (omega arith))
 
 -- Words written after a part leave it.
 pub part-sets-before : (ws l : List ℕ) (m a p : ℕ) → a + m ≤ p → take m (drop a (sets l p ws)) ≡ take m (drop a l)
