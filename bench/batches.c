@@ -144,6 +144,9 @@ static void parts(uint32_t i, uint32_t *record) {
 static void wide_parts(uint32_t i, uint32_t *record) {
     annul(record, part_start(i), GI_HIGHEST);
 }
+static void parts_before_wide(uint32_t i, uint32_t *record) {
+    annul(record, part_start(i), i + 1 < PARTS ? part_start(i) + LENGTH - 1 : GI_HIGHEST);
+}
 static void between_parts(uint32_t i, uint32_t *record) {
     annul(record, part_start(i) + LENGTH, part_start(i) + LENGTH);
 }
@@ -272,6 +275,7 @@ static void time_many_terms(uint32_t *card, uint32_t *batch) {
     heading("annulments of all, 81 blocks of many terms");
     time_entries("one position, the same", card, batch, 1, the_same);
     time_entries("one position, by chance", card, batch, 1, by_chance);
+    time_whole("the same, narrow ones before a wide one", card, batch, parts_before_wide);
     time_entries("one position, falling", card, batch, 1, falling);
     time_entries("two positions, first and last", card, batch, 2, first_and_last);
     time_entries("2 positions, far apart", card, batch, 2, far_apart);

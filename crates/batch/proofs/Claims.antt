@@ -1,7 +1,7 @@
 -- What is claimed of annulled rounds.
 use Prim.Native.Nat.{ℕ, _≤_, _<_}
 use native.Mathlib.Omega.{arith}
-use mathlib.Core.Path.{_≡_, _∙_}
+use mathlib.Core.Path.{_≡_, ap, ap₂, _∙_}
 use mathlib.Core.Bool.{Bool, true, false, _&&_, _||_, not, or-false, and-false, and-true, false≢true}
 use mathlib.Core.List.{List, [], _∷_}
 use mathlib.Core.Logic.{_⊎_, inl, inr}
@@ -23,9 +23,10 @@ roundAlone a z s = keep-same _ _ withdraws s
   where
     withdraws : (x : ℕ) → not (withdrawn (updates (3 ∷ 0 ∷ a ∷ z ∷ [])) x) ≡ not (leb a (position x) && leb (position x) z)
     withdraws x =
+        let c = leb (rank 0 a) (position x) && leb (position x) (rank 0 z) in
         let low : rank 0 a ≡ a = omega arith in
         let high : rank 0 z ≡ z = omega arith in
-        rw (low, high, or-false (leb a (position x) && leb (position x) z), and-true (leb a (position x) && leb (position x) z))
+        ap not (and-true (c || false) ∙ (or-false c ∙ ap₂ (λ l h. leb l (position x) && leb (position x) h) low high))
 
 -- such a record removes the pairs of its positions
 annuls : (us : List Update) (a z t p : ℕ) → anyUpdate (λ u. eqb (u .kind) 3 && eqb (u .term) 0 && eqb (u .from) a && eqb (u .to) z) us ≡ true →
