@@ -1,34 +1,56 @@
--- The wanted positions ahead of a walk, counted.
-use Prim.Native.Nat.{ℕ, _+_}
+-- The wanted positions of a stretch, counted block by block.
+use Prim.Native.Nat.{ℕ, _+_, _-_, _<_}
 use native.Mathlib.Omega.{arith}
 use mathlib.Core.Path.{_≡_, ap, _∙_}
-use mathlib.Core.List.{List}
+use mathlib.Core.List.{List, []}
 use lib.ListN.{length, take, drop, length-append}
 use Rattle.pair.proofs.Lists.{length-part}
+use Rattle.wanted.specs.code.Wanted.{isWanted}
+use Rattle.wanted.specs.declared.Part.{Part}
+use Rattle.card.specs.Layout.{around}
+use Rattle.card.specs.code.Configuration.{ConfigurationOf, placeOn}
+use Rattle.card.specs.declared.layout.Configuration.{Configuration}
+use Rattle.found.specs.declared.walk.Stretch.{Stretch}
 use Rattle.found.specs.declared.walk.Walk.{Walk}
-use Rattle.found.specs.declared.walk.WalkRun.{WalkRun}
-use Rattle.found.specs.code.Walk.{ahead, ReadyWalk, Next}
+use Rattle.found.specs.code.Walk.{PlacePart, aheadOf, ahead, Ready}
+use Rattle.found.proofs.Walking.{postings-none, ready-behind, ahead-part}
 
--- n positions of those ahead of the walk v are counted, and the others are ahead of w
-pub record Counting (c : List ℕ) (v w : Walk) (n : ℕ) : Type 0 where
-  pub ready : ReadyWalk c w
-  pub total : length (ahead c v) ≡ n + length (ahead c w)
+-- the stretch of the b blocks from the place p on
+abbrev pub left : Stretch → ℕ → ℕ → Stretch
+left s p b = record { place = p; blocks = b; after = s .after }
 
-pub counting-start : {c : List ℕ} {v : Walk} → ReadyWalk c v → Counting c v v 0
+-- n positions of the stretch s are counted, and the others are in the b blocks from the place p on
+pub record Counting (c : List ℕ) (t z : ℕ) (s : Stretch) (p b n : ℕ) : Type 0 where
+  pub ready : Ready c (left s p b)
+  pub total : length (aheadOf c t z s) ≡ n + length (aheadOf c t z (left s p b))
+
+pub counting-start : {c : List ℕ} {t z : ℕ} {s : Stretch} → Ready c s → Counting c t z s (s .place) (s .blocks) 0
 counting-start r = record { ready = r; total = omega arith }
 
-pub counting-turn : {c : List ℕ} {v w : Walk} {n : ℕ} {r : WalkRun} → Counting c v w n → Next c w r → Counting c v (r .rest) (n + r .len)
-counting-turn {c} {v} {w} {n} {r} k x =
+pub counting-turn :
+    {c : List ℕ} {t z : ℕ} {s : Stretch} {p b n : ℕ} {x : Part} {k : Configuration} {q : ℕ} → Counting c t z s p b n →
+    ConfigurationOf c k → 0 < b → PlacePart c p t (s .after) z x → q ≡ placeOn (k .places) p 1 → Counting c t z s q (b - 1) (n + x .len)
+counting-turn {c} {t} {z} {s} {p} {b} {n} {x} {k} {q} g o h y e =
     record {
-      ready = x .ready (k .ready);
+      ready = ready-behind o h y e (g .ready);
       total =
           omega (
             arith,
-            k .total,
-            ap length (x .rest (k .ready)) ∙ length-append (take (r .len) (drop (r .start) c)) (ahead c (r .rest)),
-            length-part c (r .start) (r .len) (x .inside),
+            g .total,
+            ap length (ahead-part o h y e (g .ready)) ∙ length-append (take (x .len) (drop (x .start) c)) (aheadOf c t z (left s q (b - 1))),
+            length-part c (x .start) (x .len) (y .inside),
           );
     }
 
-pub counting-end : {c : List ℕ} {v w : Walk} {n : ℕ} {r : WalkRun} → Counting c v w n → Next c w r → r .len ≡ 0 → n ≡ length (ahead c v)
-counting-end k x e = omega (arith, k .total, ap length (x .none (k .ready) e))
+-- no block is left
+pub nothing-left : (c : List ℕ) (t z : ℕ) (s : Stretch) (p b : ℕ) → b ≡ 0 → aheadOf c t z (left s p b) ≡ []
+nothing-left c t z s p b e = rw e (unfold around in postings-none c (isWanted t (s .after) z))
+
+pub counting-end : {c : List ℕ} {t z : ℕ} {s : Stretch} {p b n : ℕ} → Counting c t z s p b n → b ≡ 0 → n ≡ length (aheadOf c t z s)
+counting-end {c} {t} {z} {s} {p} {b} g e = omega (arith, g .total, ap length (nothing-left c t z s p b e))
+
+-- both stretches of a walk
+pub length-ahead :
+    (c : List ℕ) (w : Walk) →
+    length (ahead c w) ≡ length (aheadOf c (w .term) (w .to) (w .new)) + length (aheadOf c (w .term) (w .to) (w .old))
+length-ahead c w = length-append (aheadOf c (w .term) (w .to) (w .new)) (aheadOf c (w .term) (w .to) (w .old))

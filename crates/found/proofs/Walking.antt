@@ -125,6 +125,32 @@ module _ {A : Type 0} (c : List ℕ) (f : ℕ → Bool) (has : ℕ → A) where
       go ih [] e = first-skip i is a e ∙ ih (rw (postings-skip c f i is e) at h) ∙ sym (first-skip i is b e)
       go ih (x ∷ xs) e = let l : 0 < length (kept i) = rw e (omega arith) in first-hit i is a l ∙ sym (first-hit i is b l)
 
+-- The first block of a stretch is read: what is ahead is its part and what is ahead behind it.
+module _ {c : List ℕ} {t a z p b : ℕ} {x : Part} {k : Configuration} {q : ℕ} (o : ConfigurationOf c k) (h : 0 < b) (y : PlacePart c p t a z x) (e : q ≡ placeOn (k .places) p 1) (r : Ready c (record { place = p; blocks = b; after = a })) where
+  -- the next place is that of the circle
+  on : q ≡ (p + 1) % placeCount c
+  unfolding placeOn
+  on =
+      let shape = r .shape h in
+      let n : k .places ≡ placeCount c = omega (arith, o .ofPlaces, shape .countHigh) in
+      e ∙ rw (n, ne-eqb (placeCount c) 0 (omega (arith, shape .countLow)))
+
+  step : around (placeCount c) p b ≡ p ∷ around (placeCount c) q (b - 1)
+  step = places-step (placeCount c) p b h (r .within h) ∙ rw on
+
+  live : Each (λ i. formed (place c i) ≡ true) (p ∷ around (placeCount c) q (b - 1))
+  live = rw step at (r .live)
+
+  pub ready-behind : Ready c (record { place = q; blocks = b - 1; after = a })
+  ready-behind =
+      let shape = r .shape h in
+      record { shape = λ l. shape; within = λ l. rw on (mod-lt (p + 1) (omega (arith, shape .countLow))); live = live .1 }
+
+  pub ahead-part :
+      aheadOf c t z (record { place = p; blocks = b; after = a })
+      ≡ take (x .len) (drop (x .start) c) ++ aheadOf c t z (record { place = q; blocks = b - 1; after = a })
+  ahead-part = rw step (postings-cons c (isWanted t a z) p (around (placeCount c) q (b - 1)) ∙ rw (y .positions (live .0)))
+
 -- the first run of the stretch s is that of the so many blocks from the place on
 pub record Seeking (c : List ℕ) (t z : ℕ) (s : Stretch) (p b : ℕ) : Type 0 where
   pub most : b ≤ s .blocks
@@ -165,41 +191,22 @@ module _ {c : List ℕ} {t z : ℕ} {s : Stretch} {p b : ℕ} {x : Part} {k : Co
   abbrev behind : List ℕ
   behind = around (placeCount c) q (b - 1)
 
-  -- of a stretch that is ready, the next place is that of the circle
-  on : Ready c s → q ≡ (p + 1) % placeCount c
-  unfolding placeOn
-  on r =
-      let shape = g .ready r .shape h in
-      let n : k .places ≡ placeCount c = omega (arith, o .ofPlaces, shape .countHigh) in
-      e ∙ rw (n, ne-eqb (placeCount c) 0 (omega (arith, shape .countLow)))
-
-  step : Ready c s → around (placeCount c) p b ≡ p ∷ behind
-  step r = places-step (placeCount c) p b h (g .ready r .within h) ∙ rw (on r)
-
-  live : Ready c s → Each (λ i. formed (place c i) ≡ true) (p ∷ behind)
-  live r = rw (step r) at (g .ready r .live)
-
-  ready : Ready c s → Ready c (record { place = q; blocks = b - 1; after = s .after })
-  ready r =
-      let shape = g .ready r .shape h in
-      record { shape = λ l. shape; within = λ l. rw (on r) (mod-lt (p + 1) (omega (arith, shape .countLow))); live = live r .1 }
-
   -- it has nothing wanted
   pub seeking-turn : x .len ≤ 0 → Seeking c t z s q (b - 1)
   seeking-turn l =
       record {
         most = omega (arith, g .most);
-        ready = ready;
-        run = λ r. g .run r ∙ rw (step r) (first-skip c f _ p behind [] (none r));
-        starts = λ r. g .starts r ∙ rw (step r) (first-skip c f _ p behind 0 (none r));
-        rest = λ r. g .rest r ∙ rw (step r) (postings-skip c f p behind (none r));
+        ready = λ r. ready-behind o h y e (g .ready r);
+        run = λ r. g .run r ∙ rw (step o h y e (g .ready r)) (first-skip c f _ p behind [] (none r));
+        starts = λ r. g .starts r ∙ rw (step o h y e (g .ready r)) (first-skip c f _ p behind 0 (none r));
+        rest = λ r. g .rest r ∙ rw zero-len at (ahead-part o h y e (g .ready r));
       }
     where
       zero-len : x .len ≡ 0
       zero-len = omega arith
 
       none : Ready c s → keep f (pairs (place c p)) ≡ []
-      none r = map-nil position (keep f (pairs (place c p))) (sym (rw zero-len at (y .positions (live r .0))))
+      none r = map-nil position (keep f (pairs (place c p))) (sym (rw zero-len at (y .positions (live o h y e (g .ready r) .0))))
 
   -- it has the run
   pub seeking-hit : 0 < x .len → Sought c t z s (record { start = x .start; len = x .len; rest = record { place = q; blocks = b - 1; after = s .after } })
@@ -209,17 +216,20 @@ module _ {c : List ℕ} {t z : ℕ} {s : Stretch} {p b : ℕ} {x : Part} {k : Co
         most = omega (arith, g .most);
         fewer = λ j. omega (arith, g .most);
         spent = λ j. absurd (let z : ⊥ = omega arith in z);
-        ready = ready;
-        run = λ r. y .positions (live r .0) ∙ sym (g .run r ∙ rw (step r) (first-hit c f _ p behind [] (some r)));
-        starts = λ r. y .before (live r .0) l ∙ sym (g .starts r ∙ rw (step r) (first-hit c f _ p behind 0 (some r)));
-        rest = λ r. g .rest r ∙ rw (step r) (postings-cons c f p behind ∙ rw (y .positions (live r .0)));
+        ready = λ r. ready-behind o h y e (g .ready r);
+        run = λ r. y .positions (formed-first r) ∙ sym (g .run r ∙ rw (step o h y e (g .ready r)) (first-hit c f _ p behind [] (some r)));
+        starts = λ r. y .before (formed-first r) l ∙ sym (g .starts r ∙ rw (step o h y e (g .ready r)) (first-hit c f _ p behind 0 (some r)));
+        rest = λ r. g .rest r ∙ ahead-part o h y e (g .ready r);
         none = λ r j. absurd (let z : ⊥ = omega arith in z);
       }
     where
+      formed-first : Ready c s → formed (place c p) ≡ true
+      formed-first r = live o h y e (g .ready r) .0
+
       some : Ready c s → 0 < length (keep f (pairs (place c p)))
       some r =
           let e : length (take (x .len) (drop (x .start) c)) ≡ length (keep f (pairs (place c p)))
-          = ap length (y .positions (live r .0)) ∙ length-map (keep f (pairs (place c p))) position in
+          = ap length (y .positions (formed-first r)) ∙ length-map (keep f (pairs (place c p))) position in
           let m = length-part c (x .start) (x .len) (y .inside) in
           omega arith
 

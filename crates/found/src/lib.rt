@@ -2,6 +2,7 @@
 ghost use mathlib.Core.Path.{_≡_};
 ghost use Rattle.found.specs.Found.{questionNumber};
 
+mod count; // how many wanted positions are ahead of a walk
 mod map; // the blocks that are read, found by the map
 pub mod walk; // the blocks that are read, one run of wanted positions after another
 

@@ -1,9 +1,6 @@
 // A walk over the blocks that a lookup reads: it finds one run of wanted positions after another, each a part of the card.
-ghost use mathlib.Core.Path.{_≡_};
-ghost use Prim.Native.Nat.{_<_};
-ghost use lib.ListN.{length};
-ghost use Rattle.pair.specs.Rank.{wordLimit};
-ghost use Rattle.found.specs.code.Walk.{PlacePart, Sought, ahead, ReadyWalk, WalkStarted, WalkCounted, Next};
+ghost use Rattle.found.specs.code.Walk.{PlacePart, Sought, WalkStarted, WalkCounted, Next};
+use crate::count::count_ahead;
 use crate::map::opened;
 use crate::question_number;
 use card::layout;
@@ -78,7 +75,7 @@ pub fn start_walk(card: &[u32], term: u32, from: u32, to: u32) -> WalkStart
 }
 
 // The wanted positions of the block at a place, as a part of the card.
-fn place_part(card: &[u32], place: u16, term: u32, after: u32, to: u32) -> Part
+pub fn place_part(card: &[u32], place: u16, term: u32, after: u32, to: u32) -> Part
     ensures { λ r. ⌜ PlacePart (now (card .entry)) place term after to r ⌝ }
 {
     let found = wanted::block_part(layout::place(card, place), term, after, to);
@@ -167,26 +164,6 @@ pub fn next_run(card: &[u32], w: Walk) -> WalkRun
             new: new_rest,
             old: old_rest,
         },
-    }
-}
-
-// How many wanted positions are ahead of a walk.
-fn count_ahead(card: &[u32], walk: Walk) -> usize
-    requires { ⌜ ReadyWalk (now card) walk ⌝ }
-    requires { ⌜ length (ahead (now card) walk) < wordLimit ⌝ }
-    ensures { λ r. ⌜ r ≡ length (ahead (now (card .entry)) walk) ⌝ }
-{
-    let mut w = walk;
-    let mut count: usize = 0;
-    loop {
-        let run = next_run(card, w);
-        let len = run.len;
-        if len == 0 {
-            return count;
-        }
-        count += len;
-        let rest = run.rest;
-        w = rest;
     }
 }
 

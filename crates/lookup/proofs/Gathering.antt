@@ -1,58 +1,70 @@
--- The wanted positions ahead of a walk moved to answer words.
-use Prim.Native.Nat.{ℕ, _+_, _≤_}
+-- The wanted positions of a stretch moved to answer words, block by block.
+use Prim.Native.Nat.{ℕ, _+_, _-_, _≤_, _<_}
 use native.Mathlib.Omega.{arith}
 use mathlib.Core.Path.{_≡_, refl, sym, ap, _∙_}
 use mathlib.Core.List.{List, [], _++_, append-assoc, append-nil}
 use lib.ListN.{length, take, drop, length-append}
 use lib.Seq.{sets, length-sets}
 use Rattle.pair.proofs.Lists.{length-part, sets-behind}
-use Rattle.found.specs.declared.walk.Walk.{Walk}
-use Rattle.found.specs.declared.walk.WalkRun.{WalkRun}
-use Rattle.found.specs.code.Walk.{ahead, ReadyWalk, Next}
+use Rattle.wanted.specs.declared.Part.{Part}
+use Rattle.card.specs.code.Configuration.{ConfigurationOf, placeOn}
+use Rattle.card.specs.declared.layout.Configuration.{Configuration}
+use Rattle.found.specs.declared.walk.Stretch.{Stretch}
+use Rattle.found.specs.code.Walk.{PlacePart, aheadOf, Ready}
+use Rattle.found.proofs.Counting.{left, nothing-left}
+use Rattle.found.proofs.Walking.{ready-behind, ahead-part}
 
--- the positions done are moved, and the others are ahead of w
-pub record Moving (c l : List ℕ) (v w : Walk) (now : List ℕ) (at : ℕ) : Type 0 where
-  pub ready : ReadyWalk c w
+-- the positions done are moved to the words from at on, and the others are in the b blocks from the place p on
+pub record Moving (c l : List ℕ) (t z : ℕ) (s : Stretch) (at : ℕ) (now : List ℕ) (p b next : ℕ) : Type 0 where
+  pub ready : Ready c (left s p b)
   pub done : List ℕ
-  pub all : ahead c v ≡ done ++ ahead c w
-  pub count : at ≡ length done
-  pub same : now ≡ sets l 0 done
+  pub all : aheadOf c t z s ≡ done ++ aheadOf c t z (left s p b)
+  pub count : next ≡ at + length done
+  pub same : now ≡ sets l at done
 
-pub moving-start : {c l : List ℕ} {v : Walk} → ReadyWalk c v → Moving c l v v l 0
-moving-start r = record { ready = r; done = []; all = refl; count = refl; same = refl }
+pub moving-start : {c l : List ℕ} {t z : ℕ} {s : Stretch} {at : ℕ} → Ready c s → Moving c l t z s at l (s .place) (s .blocks) at
+moving-start r = record { ready = r; done = []; all = refl; count = omega arith; same = refl }
 
-pub moving-length : {c l now : List ℕ} {v w : Walk} {at : ℕ} → Moving c l v w now at → length now ≡ length l
-moving-length {c} {l} k = ap length (k .same) ∙ length-sets l 0 (k .done)
+pub moving-length : {c l now : List ℕ} {t z : ℕ} {s : Stretch} {at p b next : ℕ} → Moving c l t z s at now p b next → length now ≡ length l
+moving-length {c} {l} {at = at} g = ap length (g .same) ∙ length-sets l at (g .done)
 
--- the run that follows has room
-pub moving-room :
-    {c l now : List ℕ} {v w : Walk} {at : ℕ} {r : WalkRun} → Moving c l v w now at → Next c w r → length (ahead c v) ≤ length l →
-    at + r .len ≤ length now
-moving-room {c} {l} {now} {v} {w} {at} {r} k x h =
-    omega (
-      arith,
-      moving-length k,
-      k .count,
-      ap length (k .all) ∙ length-append (k .done) (ahead c w),
-      ap length (x .rest (k .ready)) ∙ length-append (take (r .len) (drop (r .start) c)) (ahead c (r .rest)),
-      length-part c (r .start) (r .len) (x .inside),
-    )
+-- the block at the place is read
+module _ {c l now : List ℕ} {t z : ℕ} {s : Stretch} {at p b next : ℕ} {x : Part} {k : Configuration} {q : ℕ} (g : Moving c l t z s at now p b next) (o : ConfigurationOf c k) (h : 0 < b) (y : PlacePart c p t (s .after) z x) (e : q ≡ placeOn (k .places) p 1) where
+  abbrev part : List ℕ
+  part = take (x .len) (drop (x .start) c)
 
-pub moving-turn :
-    {c l now : List ℕ} {v w : Walk} {at : ℕ} {r : WalkRun} {m : List ℕ} → Moving c l v w now at → Next c w r →
-    m ≡ sets now at (take (r .len) (drop (r .start) c)) → Moving c l v (r .rest) m (at + r .len)
-moving-turn {c} {l} {now} {v} {w} {at} {r} {m} k x e =
-    let part = take (r .len) (drop (r .start) c) in
-    record {
-      ready = x .ready (k .ready);
-      done = k .done ++ part;
-      all = k .all ∙ ap (λ l. k .done ++ l) (x .rest (k .ready)) ∙ sym (append-assoc (k .done) part (ahead c (r .rest)));
-      count = omega (arith, k .count, length-append (k .done) part, length-part c (r .start) (r .len) (x .inside));
-      same = sets-behind l 0 (k .done) part (k .same) (sym (k .count)) (let z : 0 + at ≡ at = omega arith in rw z e);
-    }
+  abbrev behind : List ℕ
+  behind = aheadOf c t z (left s q (b - 1))
+
+  all-part : aheadOf c t z s ≡ (g .done ++ part) ++ behind
+  all-part = g .all ∙ ap (λ l. g .done ++ l) (ahead-part o h y e (g .ready)) ∙ sym (append-assoc (g .done) part behind)
+
+  -- its part has room
+  pub moving-room : at + length (aheadOf c t z s) ≤ length l → next + x .len ≤ length now
+  moving-room f =
+      omega (
+        arith,
+        moving-length g,
+        g .count,
+        ap length all-part ∙ length-append (g .done ++ part) behind,
+        length-append (g .done) part,
+        length-part c (x .start) (x .len) (y .inside),
+      )
+
+  -- and is moved
+  pub moving-turn : {m : List ℕ} → m ≡ sets now next part → Moving c l t z s at m q (b - 1) (next + x .len)
+  moving-turn {m} f =
+      record {
+        ready = ready-behind o h y e (g .ready);
+        done = g .done ++ part;
+        all = all-part;
+        count = omega (arith, g .count, length-append (g .done) part, length-part c (x .start) (x .len) (y .inside));
+        same = sets-behind l at (g .done) part (g .same) refl (rw (g .count) at f);
+      }
 
 pub moving-end :
-    {c l now : List ℕ} {v w : Walk} {at : ℕ} {r : WalkRun} → Moving c l v w now at → Next c w r → r .len ≡ 0 → now ≡ sets l 0 (ahead c v)
-moving-end {c} {l} {now} {v} k x e =
-    let whole : ahead c v ≡ k .done = k .all ∙ (rw (x .none (k .ready) e) (append-nil (k .done))) in
-    rw whole (k .same)
+    {c l now : List ℕ} {t z : ℕ} {s : Stretch} {at p b next : ℕ} → Moving c l t z s at now p b next → b ≡ 0 →
+    (next ≡ at + length (aheadOf c t z s)) × (now ≡ sets l at (aheadOf c t z s))
+moving-end {c} {t = t} {z} {s} {at} {p} {b} g e =
+    let whole : aheadOf c t z s ≡ g .done = g .all ∙ rw (nothing-left c t z s p b e) (append-nil (g .done)) in
+    (rw whole (g .count), rw whole (g .same))

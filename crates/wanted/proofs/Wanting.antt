@@ -1,11 +1,11 @@
 -- The wanted positions: of one entry, and among the words from an entry on.
-use Prim.Native.Nat.{ℕ, zero, suc, _+_, _-_, _≤_, _<_}
+use Prim.Native.Nat.{ℕ, zero, suc, _+_, _-_, _≤_, _<_, zero-le}
 use native.Mathlib.Omega.{arith}
 use mathlib.Core.Path.{_≡_, refl, sym, ap}
 use mathlib.Core.Bool.{Bool, true, false, cond, _&&_, and-false}
 use mathlib.Core.List.{List, [], _∷_, _++_, map}
 use borrow.Author.Tests.{ltb-true, ltb-false, leb-true, leb-false, lt-ltb, le-ltb, lt-leb, le-leb}
-use lib.ListN.{length, take, drop}
+use lib.ListN.{length, take, drop, getD}
 use lib.Dec.{ltb, leb}
 use Rattle.pair.specs.Rank.{rank, position, Words}
 use Rattle.pair.specs.Rising.{keep, atMost, risingFrom}
@@ -14,7 +14,7 @@ use Rattle.pair.proofs.Keep.{keep-none}
 use Rattle.pair.proofs.Order.{position-rank}
 use Rattle.pair.proofs.Parts.{atMost-none}
 use Rattle.pair.proofs.Rising.{rising-tail}
-use Rattle.pair.proofs.Search.{stretch}
+use Rattle.pair.proofs.Search.{Halved, halved-start, halved-up, halved-end, stretch}
 use Rattle.pair.proofs.Sets.{rising-Each}
 use Rattle.block.specs.Block.{pairsFrom, wordsBefore}
 use Rattle.wanted.specs.code.Wanted.{isWanted, UpTo, EntryPart}
@@ -22,6 +22,18 @@ use Rattle.wanted.specs.code.Wanted.{isWanted, UpTo, EntryPart}
 -- the test of a position of the wanted term
 abbrev pub inRange : ℕ → ℕ → ℕ → Bool
 inRange a z p = ltb a p && leb p z
+
+-- a search by halving that has come to an end
+pub halved-found : {ps : List ℕ} {b low high : ℕ} → Halved ps b low high → high ≤ low → UpTo ps b low
+halved-found {ps} {b} {low} {high} h l =
+    let e : high ≡ low = omega (arith, h .order) in
+    record { inside = omega (arith, h .order, h .inside); below = h .below; beyond = rw e at (h .beyond); count = halved-end h l }
+
+-- where the last is at most b, all are
+pub all-up-to : {ps : List ℕ} {b : ℕ} → 0 < length ps → getD ps (length ps - 1) 0 ≤ b → UpTo ps b (length ps)
+all-up-to {ps} {b} l h =
+    let e : length ps - 1 + 1 ≡ length ps = omega arith in
+    rw e at (halved-found (halved-up (halved-start ps b) zero-le (omega arith) h) (omega arith))
 
 -- one entry: the wanted positions lie between two counts
 pub entry-counts : {ps : List ℕ} {a z s e : ℕ} → UpTo ps a s → UpTo ps z e → EntryPart ps a z (record { start = s; len = e - s })

@@ -13,12 +13,22 @@ pub struct Part {
 // The empty part.
 const NOTHING: Part = Part { start: 0, len: 0 };
 
-// How many of the rising positions are at most the bound.
+// How many of the rising positions are at most the bound. None or all are told by the first or the last of them alone.
 fn up_to(positions: &[u32], bound: u32) -> usize
     ensures { λ r. ⌜ UpTo (now (positions .entry)) bound r ⌝ }
 {
+    let len = positions.len();
+    if len == 0 {
+        return 0;
+    }
+    if bound < positions[0] {
+        return 0;
+    }
+    if positions[len - 1] <= bound {
+        return len;
+    }
     let mut low: usize = 0;
-    let mut high: usize = positions.len();
+    let mut high: usize = len;
     while low < high {
         let middle = low + (high - low) / 2;
         if positions[middle] <= bound {
