@@ -21,7 +21,7 @@ help:
 	@echo 'make run     build the library and the host program; make a card, apply a batch and a text file, annul, look up, print'
 	@echo 'make test    run the merge gate, .ci/run'
 	@echo 'make pins    write tests/pins anew, which the gate holds the source to; read its diff'
-	@echo 'make bench   time the judge, pages and scores against plain C, steps and lookups against the judge'
+	@echo 'make bench   time the judge, lookups, pages and scores against plain C, steps against the judge'
 	@echo 'make fmt     format Rattle, Rust and C files'
 	@echo 'make clean   remove all that was built'
 
@@ -101,8 +101,8 @@ target/bench_step: bench/step.c $(BENCH_FILES) $(HEADER) $(LIBRARY)
 target/bench_batches: bench/batches.c $(BENCH_FILES) $(HEADER) $(LIBRARY)
 	$(BENCH_CC) -o $@ bench/batches.c bench/bench.c $(LIBRARY)
 
-target/bench_lookup: bench/lookup.c $(BENCH_FILES) $(HEADER) $(LIBRARY)
-	$(BENCH_CC) -o $@ bench/lookup.c bench/bench.c $(LIBRARY)
+target/bench_lookup: bench/lookup.c bench/lookup_c.c bench/lookup_c.h $(BENCH_FILES) $(HEADER) $(LIBRARY)
+	$(BENCH_CC) -o $@ bench/lookup.c bench/lookup_c.c bench/bench.c $(LIBRARY)
 
 target/bench_page: bench/page.c $(BENCH_FILES) $(HEADER) $(LIBRARY)
 	$(BENCH_CC) -o $@ bench/page.c bench/bench.c $(LIBRARY)
