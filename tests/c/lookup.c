@@ -157,6 +157,40 @@ static void open_pass(void) {
     found(card, 2, 1, 9, FOUND(3, 4), 2, group, "a removed pair of the boundary's term");
 }
 
+/* The boundary within an entry, at the highest position, and under the terms beside. */
+static void boundaries(void) {
+    const char *group = "boundary";
+    struct card card = WITH(CARD(1, 8, 4, 0, 1, 1, 2, 5), 0, 2, 6, 1, 3, 5, 7, 9, 11);
+    card = WITH(card, 1, 2, 2, 2, 5, 0, 0, 0, 0);
+    found(card, 2, GI_LOWEST, GI_HIGHEST, FOUND(2, 5, 7, 9, 11), 2, group, "all on both sides");
+    found(card, 2, 1, 1, NONE, 1, group, "an old position below it");
+    found(card, 2, 1, 4, FOUND(2), 2, group, "new positions below it");
+    found(card, 2, 3, 6, FOUND(5), 2, group, "from an old position to between two");
+    found(card, 2, 5, 5, FOUND(5), 2, group, "itself");
+    found(card, 2, 5, 7, FOUND(5, 7), 2, group, "itself and the next");
+    found(card, 2, 6, 6, NONE, 2, group, "just above it");
+    found(card, 2, 6, 9, FOUND(7, 9), 2, group, "from just above it");
+    found(card, 2, 8, 10, FOUND(9), 2, group, "between two and between the next two");
+    found(card, 2, 11, 11, FOUND(11), 2, group, "the last position");
+    found(card, 2, 12, UINT32_MAX, NONE, 2, group, "above the last position");
+
+    card = WITH(CARD(1, 8, 4, 0, 1, 1, 2, UINT32_MAX), 0, 2, 2, 3, UINT32_MAX, 3, 1, 1, 0);
+    card = WITH(card, 1, 2, 2, 4, UINT32_MAX, 0, 0, 0, 0);
+    found(card, 2, GI_LOWEST, GI_HIGHEST, FOUND(4, UINT32_MAX), 2, group, "all up to the highest");
+    found(card, 2, UINT32_MAX, UINT32_MAX, FOUND(UINT32_MAX), 2, group, "the highest alone");
+    found(card, 3, GI_LOWEST, GI_HIGHEST, FOUND(1), 2, group, "behind the highest of the term before");
+
+    card = WITH(CARD(1, 8, 4, 0, 1, 1, 1, 9), 0, 1, 1, 9, 2, 2, 3, 4, 0);
+    card = WITH(card, 1, 1, 1, 9, 0, 0, 0, 0, 0);
+    found(card, 2, 1, 8, FOUND(3, 4), 2, group, "a higher position of the term before");
+    found(card, 1, GI_LOWEST, GI_HIGHEST, FOUND(9), 2, group, "once");
+
+    card = WITH(CARD(1, 8, 4, 0, 1, 1, 3, 1), 0, 2, 2, 1, 2, 3, 1, 2, 0);
+    card = WITH(card, 1, 3, 1, 1, 0, 0, 0, 0, 0);
+    found(card, 2, GI_LOWEST, GI_HIGHEST, NONE, 1, group, "a lower position of the next term");
+    found(card, 3, GI_LOWEST, GI_HIGHEST, FOUND(1, 2), 2, group, "the next term");
+}
+
 /* What a pass shows while it goes on, from case 1 to case 3. */
 static void during_a_pass(void) {
     const char *group = "during a pass";
@@ -213,6 +247,119 @@ static void largest(void) {
     free(card);
 }
 
+/* ---- long answers, lent at every shift from a multiple of 32 bytes */
+
+enum { SHIFTS = 8, GUARDS = 64, LONG_N = 2, LONGEST = 1022, LONG_MEMORY = GUARDS + SHIFTS + 2100 + GUARDS };
+
+/* A card of two places: in the last, at the end of the card, the positions 10, 20 and so on of term
+ * 5, maybe behind an entry of one position and before another. Gives its length. */
+static size_t long_card(uint32_t *words, uint32_t block_words, uint32_t count, bool among_others) {
+    size_t length = GI_CONFIG_WORDS + LONG_N * (GI_MAP_ENTRY_WORDS + (size_t)block_words);
+    const uint32_t configuration[GI_CONFIG_WORDS] = {1, block_words, LONG_N, 1, 1, 0, 0, 0};
+    memcpy(words, configuration, sizeof configuration);
+    uint32_t *block = words + length - block_words;
+    memset(block, 0, block_words * sizeof *block);
+    uint32_t *next = block;
+    if (among_others) {
+        *next++ = 3;
+        *next++ = 1;
+        *next++ = 9;
+    }
+    *next++ = 5;
+    *next++ = count;
+    for (uint32_t k = 1; k <= count; k++)
+        *next++ = 10 * k;
+    if (among_others) {
+        *next++ = 20000;
+        *next++ = 1;
+        *next++ = 30000;
+    }
+    words[GI_CONFIG_WORDS + 2] = block[0];
+    words[GI_CONFIG_WORDS + 3] = block[2];
+    return length;
+}
+
+/* Whether the memory holds 10 x first and so on at its place, and guards everywhere else. */
+static bool holds_tens(const uint32_t *memory, size_t start, uint32_t first, size_t count) {
+    bool as_expected = true;
+    for (size_t i = 0; i < LONG_MEMORY; i++) {
+        bool inside = i >= start && i < start + count;
+        as_expected =
+            as_expected && memory[i] == (inside ? 10 * (first + (uint32_t)(i - start)) : UNUSED - (uint32_t)i);
+    }
+    return as_expected;
+}
+
+static void make_guards(uint32_t *memory) {
+    for (size_t i = 0; i < LONG_MEMORY; i++)
+        memory[i] = UNUSED - (uint32_t)i;
+}
+
+/* Asks for so many positions of the long entry from the first on, counted from 1; with just as many
+ * answer words, one more, several more, and one less. */
+static void tens(uint32_t block_words, uint32_t entry, bool among_others, uint32_t first, uint32_t count, size_t shift,
+                 size_t answer_shift, const char *what) {
+    static _Alignas(32) uint32_t card[LONG_MEMORY];
+    static _Alignas(32) uint32_t before[LONG_MEMORY];
+    static _Alignas(32) uint32_t answer[LONG_MEMORY];
+    const char *group = "a long answer";
+    const size_t start = GUARDS + answer_shift;
+    /* at the first and last position, or beyond them as far as no other comes in */
+    const bool exact = count > 0 && shift % 2 == 1;
+    const uint32_t from = exact ? 10 * first : 10 * first - 9;
+    const uint32_t to = exact ? 10 * (first + count - 1) : 10 * (first + count) - 1;
+    make_guards(card);
+    make_guards(answer);
+    size_t length = long_card(card + GUARDS + shift, block_words, entry, among_others);
+    memcpy(before, card, sizeof card);
+    const size_t rooms[] = {count, count + 1, count + 19, count - 1};
+    for (int i = 0; i < (count > 0 ? 4 : 3); i++) {
+        bool enough = rooms[i] >= count;
+        uint32_t taken = UNUSED;
+        uint32_t blocks = UNUSED;
+        uint32_t number =
+            gi_lookup(card + GUARDS + shift, length, 5, from, to, answer + start, rooms[i], &taken, &blocks);
+        check_number(number, enough ? GI_DONE : GI_LOOKUP_ANSWER, group, what);
+        check(taken == (enough ? count : 0) && blocks == (enough ? 1 : 0), group, what);
+        check(holds_tens(answer, start, first, enough ? count : 0), group, what);
+        make_guards(answer);
+        if (first == 1 && count == entry) {
+            taken = blocks = UNUSED;
+            number = gi_lookup_all(card + GUARDS + shift, length, 5, answer + start, rooms[i], &taken, &blocks);
+            check_number(number, enough ? GI_DONE : GI_LOOKUP_ANSWER, group, what);
+            check(taken == (enough ? count : 0) && blocks == (enough ? 1 : 0), group, what);
+            check(holds_tens(answer, start, first, enough ? count : 0), group, what);
+            make_guards(answer);
+        }
+        size_t read = UNUSED;
+        number = gi_read(card + GUARDS + shift, length, 5, from, to, answer + start, rooms[i], &read);
+        check(number == GI_DONE && read == (enough ? count : count - 1), group, what);
+        check(holds_tens(answer, start, first, read), group, what);
+        make_guards(answer);
+    }
+    check(memcmp(card, before, sizeof card) == 0, group, "nothing was written to the card and around it");
+}
+
+static void long_answers(void) {
+    static const struct {
+        uint32_t first;
+        uint32_t count;
+    } parts[] = {{1, 1},  {1, 3},  {1, 4},  {1, 8},   {1, 70},  {2, 7},   {2, 8},  {2, 9},
+                 {3, 15}, {4, 16}, {5, 17}, {8, 31},  {9, 32},  {10, 33}, {7, 63}, {6, 64},
+                 {5, 65}, {16, 0}, {70, 1}, {39, 32}, {55, 16}, {63, 8},  {67, 4}};
+    for (size_t i = 0; i < sizeof parts / sizeof *parts; i++)
+        for (size_t shift = 0; shift < SHIFTS; shift++) {
+            size_t other = (3 * shift + i) % SHIFTS;
+            tens(72, 70, false, parts[i].first, parts[i].count, shift, other, "the entry fills its block");
+            tens(80, 70, true, parts[i].first, parts[i].count, shift, other, "the entry stands among others");
+        }
+    for (size_t shift = 0; shift < SHIFTS; shift++) {
+        tens(1024, LONGEST, false, 1, LONGEST, shift, (shift + 3) % SHIFTS, "all of a full block");
+        tens(1024, LONGEST, false, 1, LONGEST - 1, shift, (shift + 5) % SHIFTS, "all but the last of it");
+        tens(1024, LONGEST, false, 2, LONGEST - 1, shift, shift, "all but the first of it");
+    }
+}
+
 /* ---- refusals */
 
 static void refused(struct card card, size_t length, uint32_t term, uint32_t from, uint32_t to, uint32_t number,
@@ -253,8 +400,10 @@ void test_lookup(void) {
     ranges();
     many_blocks();
     open_pass();
+    boundaries();
     during_a_pass();
     run_views();
     largest();
+    long_answers();
     refusals();
 }
