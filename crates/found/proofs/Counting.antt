@@ -2,22 +2,16 @@
 use Prim.Native.Nat.{ℕ, _+_, _-_, _<_}
 use native.Mathlib.Omega.{arith}
 use mathlib.Core.Path.{_≡_, ap, _∙_}
-use mathlib.Core.List.{List, []}
+use mathlib.Core.List.{List}
 use lib.ListN.{length, take, drop, length-append}
 use Rattle.pair.proofs.Lists.{length-part}
-use Rattle.wanted.specs.code.Wanted.{isWanted}
 use Rattle.wanted.specs.declared.Part.{Part}
-use Rattle.card.specs.Layout.{around}
 use Rattle.card.specs.code.Configuration.{ConfigurationOf, placeOn}
 use Rattle.card.specs.declared.layout.Configuration.{Configuration}
 use Rattle.found.specs.declared.walk.Stretch.{Stretch}
 use Rattle.found.specs.declared.walk.Walk.{Walk}
 use Rattle.found.specs.code.Walk.{PlacePart, aheadOf, ahead, Ready}
-use Rattle.found.proofs.Walking.{postings-none, ready-behind, ahead-part}
-
--- the stretch of the b blocks from the place p on
-abbrev pub left : Stretch → ℕ → ℕ → Stretch
-left s p b = record { place = p; blocks = b; after = s .after }
+use Rattle.found.proofs.Walking.{ready-behind, ahead-part, left, nothing-left}
 
 -- n positions of the stretch s are counted, and the others are in the b blocks from the place p on
 pub record Counting (c : List ℕ) (t z : ℕ) (s : Stretch) (p b n : ℕ) : Type 0 where
@@ -41,10 +35,6 @@ counting-turn {c} {t} {z} {s} {p} {b} {n} {x} {k} {q} g o h y e =
             length-part c (x .start) (x .len) (y .inside),
           );
     }
-
--- no block is left
-pub nothing-left : (c : List ℕ) (t z : ℕ) (s : Stretch) (p b : ℕ) → b ≡ 0 → aheadOf c t z (left s p b) ≡ []
-nothing-left c t z s p b e = rw e (unfold around in postings-none c (isWanted t (s .after) z))
 
 pub counting-end : {c : List ℕ} {t z : ℕ} {s : Stretch} {p b n : ℕ} → Counting c t z s p b n → b ≡ 0 → n ≡ length (aheadOf c t z s)
 counting-end {c} {t} {z} {s} {p} {b} g e = omega (arith, g .total, ap length (nothing-left c t z s p b e))

@@ -151,13 +151,20 @@ module _ {c : List ℕ} {t a z p b : ℕ} {x : Part} {k : Configuration} {q : �
       ≡ take (x .len) (drop (x .start) c) ++ aheadOf c t z (record { place = q; blocks = b - 1; after = a })
   ahead-part = rw step (postings-cons c (isWanted t a z) p (around (placeCount c) q (b - 1)) ∙ rw (y .positions (live .0)))
 
+-- the stretch of the b blocks from the place p on
+abbrev pub left : Stretch → ℕ → ℕ → Stretch
+left s p b = record { place = p; blocks = b; after = s .after }
+
+pub nothing-left : (c : List ℕ) (t z : ℕ) (s : Stretch) (p b : ℕ) → b ≡ 0 → aheadOf c t z (left s p b) ≡ []
+nothing-left c t z s p b e = rw e (unfold around in postings-none c (isWanted t (s .after) z))
+
 -- the first run of the stretch s is that of the so many blocks from the place on
 pub record Seeking (c : List ℕ) (t z : ℕ) (s : Stretch) (p b : ℕ) : Type 0 where
   pub most : b ≤ s .blocks
-  pub ready : Ready c s → Ready c (record { place = p; blocks = b; after = s .after })
-  pub run : Ready c s → firstRun c t z s [] ≡ firstRun c t z (record { place = p; blocks = b; after = s .after }) []
-  pub starts : Ready c s → firstStart c t z s 0 ≡ firstStart c t z (record { place = p; blocks = b; after = s .after }) 0
-  pub rest : Ready c s → aheadOf c t z s ≡ aheadOf c t z (record { place = p; blocks = b; after = s .after })
+  pub ready : Ready c s → Ready c (left s p b)
+  pub run : Ready c s → firstRun c t z s [] ≡ firstRun c t z (left s p b) []
+  pub starts : Ready c s → firstStart c t z s 0 ≡ firstStart c t z (left s p b) 0
+  pub rest : Ready c s → aheadOf c t z s ≡ aheadOf c t z (left s p b)
 
 pub seeking-start : (c : List ℕ) (t z : ℕ) (s : Stretch) → Seeking c t z s (s .place) (s .blocks)
 seeking-start c t z s =
@@ -166,7 +173,7 @@ seeking-start c t z s =
 -- no block is left
 pub seeking-end :
     {c : List ℕ} {t z : ℕ} {s : Stretch} {p b : ℕ} → Seeking c t z s p b → b ≡ 0 →
-    Sought c t z s (record { start = 0; len = 0; rest = record { place = p; blocks = 0; after = s .after } })
+    Sought c t z s (record { start = 0; len = 0; rest = left s p 0 })
 seeking-end {c} {t} {z} {s} {p} {b} k e =
     record {
       inside = zero-le;
@@ -177,11 +184,8 @@ seeking-end {c} {t} {z} {s} {p} {b} k e =
       run = λ r. sym (unfold atFirst around in (rw e at (k .run r)));
       starts = λ r. sym (unfold atFirst around in (rw e at (k .starts r)));
       rest = λ r. rw e at (k .rest r);
-      none = λ r l. (rw e at (k .rest r)) ∙ none;
+      none = λ r l. k .rest r ∙ nothing-left c t z s p b e;
     }
-  where
-    none : aheadOf c t z (record { place = p; blocks = 0; after = s .after }) ≡ []
-    none = unfold around in postings-none c (isWanted t (s .after) z)
 
 -- the block at the place is read
 module _ {c : List ℕ} {t z : ℕ} {s : Stretch} {p b : ℕ} {x : Part} {k : Configuration} {q : ℕ} (g : Seeking c t z s p b) (o : ConfigurationOf c k) (h : 0 < b) (y : PlacePart c p t (s .after) z x) (e : q ≡ placeOn (k .places) p 1) where
@@ -209,7 +213,7 @@ module _ {c : List ℕ} {t z : ℕ} {s : Stretch} {p b : ℕ} {x : Part} {k : Co
       none r = map-nil position (keep f (pairs (place c p))) (sym (rw zero-len at (y .positions (live o h y e (g .ready r) .0))))
 
   -- it has the run
-  pub seeking-hit : 0 < x .len → Sought c t z s (record { start = x .start; len = x .len; rest = record { place = q; blocks = b - 1; after = s .after } })
+  pub seeking-hit : 0 < x .len → Sought c t z s (record { start = x .start; len = x .len; rest = left s q (b - 1) })
   seeking-hit l =
       record {
         inside = y .inside;

@@ -11,8 +11,7 @@ use Rattle.card.specs.code.Configuration.{ConfigurationOf, placeOn}
 use Rattle.card.specs.declared.layout.Configuration.{Configuration}
 use Rattle.found.specs.declared.walk.Stretch.{Stretch}
 use Rattle.found.specs.code.Walk.{PlacePart, aheadOf, Ready}
-use Rattle.found.proofs.Counting.{left, nothing-left}
-use Rattle.found.proofs.Walking.{ready-behind, ahead-part}
+use Rattle.found.proofs.Walking.{ready-behind, ahead-part, left, nothing-left}
 
 -- the positions done are moved to the words from at on, and the others are in the b blocks from the place p on
 pub record Moving (c l : List ℕ) (t z : ℕ) (s : Stretch) (at : ℕ) (now : List ℕ) (p b next : ℕ) : Type 0 where

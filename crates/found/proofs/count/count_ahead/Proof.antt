@@ -1,7 +1,6 @@
 -- `found::count::count_ahead` meets its contract: the positions of the new segment's stretch and those of the old segment's.
 use native.Mathlib.Omega.{arith}
 use Rattle.found.proofs.Counting.{length-ahead}
-use borrow.Author.Needs.{needs}
 use Rattle.found.proofs.count.count_ahead.Statement.{statement}
 use Rattle.found.proofs.count.count_ahead.Tie as tie
 
