@@ -311,7 +311,9 @@ impl Parser<'_> {
     /// The parameter `self` in any of its forms; says whether there is one.
     fn receiver(&mut self) -> Outcome<bool> {
         let here = self.now.clone();
-        let _ = self.take("&")? && self.now.token == Token::Lifetime && self.advance().is_ok();
+        if self.take("&")? && self.now.token == Token::Lifetime {
+            self.advance()?;
+        }
         self.take_word("mut")?;
         if !self.take_word("self")? {
             self.now = here;

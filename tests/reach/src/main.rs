@@ -2,14 +2,17 @@
 //! and looks at each of them. Planted sources and mutants show that it finds what it should.
 //! Usage: reach [DIR], the folder with crates.txt. The last line is 'N passed, M failed'.
 
+mod blocks;
 mod checks;
 mod crude;
 mod expressions;
 mod items;
 mod lex;
+mod look;
 mod mutants;
 mod names;
 mod parse;
+mod patterns;
 mod planted;
 mod program;
 mod reach;

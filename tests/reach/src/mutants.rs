@@ -75,7 +75,7 @@ pub fn run(source: &Source, roots: &[String], clean: &Report, checks: &mut Check
         counts[3] += 1;
     }
     let [arrays, calls, types, constants, elsewhere] = counts;
-    println!("  {arrays} functions with an array, {calls} with an unknown call,");
-    println!("  {types} types and {constants} constants with an array: found");
-    println!("  {elsewhere} functions that are not reached, with an array: not found");
+    println!("  to be found: {arrays} functions with an array, {calls} with an unknown call,");
+    println!("  {types} types and {constants} constants with an array");
+    println!("  to be passed over: {elsewhere} functions that are not reached, with an array");
 }

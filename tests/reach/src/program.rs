@@ -81,7 +81,10 @@ impl Program {
         for (file, text) in &source.texts {
             match items::parse(file, text) {
                 Ok(items) => drop(files.insert(file.clone(), items)),
-                Err(fault) => program.faults.push(fault),
+                Err(fault) => {
+                    program.faults.push(fault);
+                    files.insert(file.clone(), Vec::new());
+                }
             }
         }
         for listed in &source.crates {

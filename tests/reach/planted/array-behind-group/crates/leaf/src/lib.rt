@@ -1,0 +1,11 @@
+// A table of its own.
+pub fn table() -> u32 {
+    let words = [1u32, 2, 3, 4];
+    words[2]
+}
+
+pub mod inner {
+    pub fn plain() -> u32 {
+        super::table()
+    }
+}

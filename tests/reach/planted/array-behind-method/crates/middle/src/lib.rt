@@ -1,0 +1,3 @@
+pub fn zero() -> leaf::Count {
+    leaf::Count { n: 0 }
+}

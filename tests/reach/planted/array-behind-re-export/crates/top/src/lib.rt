@@ -1,0 +1,4 @@
+use middle::front;
+pub fn start(x: u32) -> u32 {
+    front::table() + x
+}

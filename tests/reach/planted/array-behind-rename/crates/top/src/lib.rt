@@ -1,0 +1,4 @@
+use leaf::table as quiet;
+pub fn start(x: u32) -> u32 {
+    quiet() + x
+}

@@ -1,0 +1,1 @@
+pub struct Row(pub u32, pub &'static [u32; 4]);

@@ -1,0 +1,4 @@
+use leaf::Row;
+pub fn start(row: Row) -> u32 {
+    row.0
+}

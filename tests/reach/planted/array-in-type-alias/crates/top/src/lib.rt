@@ -1,0 +1,3 @@
+pub fn start(words: &leaf::Quiet) -> u32 {
+    leaf::first(words)
+}

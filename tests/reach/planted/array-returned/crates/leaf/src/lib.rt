@@ -1,0 +1,3 @@
+pub fn words(r: &[u32]) -> [u32; 2] {
+    words(r)
+}

@@ -1,0 +1,3 @@
+pub fn count(bytes: &[u8]) -> u32 {
+    bytes.len() as u32
+}

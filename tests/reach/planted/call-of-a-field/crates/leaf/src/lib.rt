@@ -1,0 +1,3 @@
+pub struct Calls {
+    pub f: fn(u32) -> u32,
+}

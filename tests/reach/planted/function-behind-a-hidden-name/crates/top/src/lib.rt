@@ -1,0 +1,6 @@
+use leaf::table;
+pub fn start(x: u32) -> u32 {
+    let kept = table;
+    let table = x;
+    table
+}

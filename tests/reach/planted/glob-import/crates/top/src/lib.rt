@@ -1,0 +1,4 @@
+use leaf::*;
+pub fn start(x: u32) -> u32 {
+    table() + x
+}

@@ -1,0 +1,2 @@
+#[derive(Clone)]
+struct S;

@@ -1,0 +1,3 @@
+trait Sum {
+    fn sum(self) -> u32;
+}

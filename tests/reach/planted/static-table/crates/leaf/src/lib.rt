@@ -1,0 +1,1 @@
+pub static TABLE: &[u8] = b"abcd";

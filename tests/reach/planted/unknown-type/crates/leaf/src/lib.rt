@@ -1,0 +1,3 @@
+pub struct Row {
+    pub cells: Cells,
+}
