@@ -1,27 +1,27 @@
-//! The parser of blocks and statements, and of what ends with a block; with the scopes of names.
+// The parser of blocks and statements, and of what ends with a block; with the scopes of names.
 
 use crate::lex::Token;
 use crate::parse::{Outcome, Parser};
 use crate::tree::{Mention, Mentions};
 
-/// Items, which have no place in a body.
+// Items, which have no place in a body.
 const ITEM_WORDS: [&str; 14] = [
     "fn", "const", "static", "struct", "enum", "union", "type", "use", "mod", "impl", "trait",
     "extern", "pub", "ghost",
 ];
 
-/// Words that begin an expression which ends a statement with its closing brace.
+// Words that begin an expression which ends a statement with its closing brace.
 const BLOCK_WORDS: [&str; 5] = ["if", "match", "loop", "while", "for"];
 
 impl Parser<'_> {
-    /// A pattern whose mentions are to follow those of what it is bound to.
+    // A pattern whose mentions are to follow those of what it is bound to.
     pub fn pattern_apart(&mut self) -> Outcome<Mentions> {
         let before = self.mentions.len();
         self.pattern()?;
         Ok(self.mentions.split_off(before))
     }
 
-    /// A part of the body with names of its own.
+    // A part of the body with names of its own.
     pub fn scope(&mut self, part: impl FnOnce(&mut Self) -> Outcome<()>) -> Outcome<()> {
         self.mention(self.line(), Mention::Enter);
         part(self)?;
@@ -34,7 +34,7 @@ impl Parser<'_> {
         word || self.at("{") || self.now.token == Token::Lifetime
     }
 
-    /// A block, or what ends with one.
+    // A block, or what ends with one.
     pub fn block_like(&mut self) -> Outcome<()> {
         if self.now.token == Token::Lifetime {
             self.advance()?;
@@ -56,7 +56,7 @@ impl Parser<'_> {
         self.block()
     }
 
-    /// A condition and the block that sees its names.
+    // A condition and the block that sees its names.
     fn headed_block(&mut self) -> Outcome<()> {
         self.expression(false)?;
         self.block()
@@ -112,7 +112,7 @@ impl Parser<'_> {
         }
     }
 
-    /// Whether what follows a closing brace would go on with its expression.
+    // Whether what follows a closing brace would go on with its expression.
     fn continues_expression(&self) -> bool {
         [".", "?"].iter().any(|symbol| self.at(symbol)) || self.at_word("as")
     }
@@ -151,7 +151,7 @@ impl Parser<'_> {
         Ok(())
     }
 
-    /// `union` and `ghost` are names unless an item follows.
+    // `union` and `ghost` are names unless an item follows.
     fn is_plain_name(&self) -> Outcome<bool> {
         let plain = self.at_word("union") || self.at_word("ghost");
         Ok(plain && !matches!(self.ahead()?, Token::Name(_)))

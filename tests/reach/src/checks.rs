@@ -1,4 +1,4 @@
-//! Counts checks and prints them.
+// Counts checks and prints them.
 
 #[derive(Default)]
 pub struct Checks {
@@ -7,7 +7,7 @@ pub struct Checks {
 }
 
 impl Checks {
-    /// Counts a check; says what failed.
+    // Counts a check; says what failed.
     pub fn check(&mut self, holds: bool, what: &str) {
         if holds {
             self.passed += 1;

@@ -1,5 +1,5 @@
-//! A second, cruder look at what a function calls, by its tokens alone: each name before an opening
-//! bracket must be among what the analysis resolved. It knows neither grammar nor modules.
+// A second, cruder look at what a function calls, by its tokens alone: each name before an opening
+// bracket must be among what the analysis resolved. It knows neither grammar nor modules.
 
 use std::collections::{BTreeMap, BTreeSet};
 
@@ -22,7 +22,7 @@ fn tokens(text: &str) -> Vec<Token> {
     tokens
 }
 
-/// The names that a file's text gives others by `as`.
+// The names that a file's text gives others by `as`.
 fn renamed(text: &str) -> BTreeMap<String, String> {
     let uses = text
         .lines()
@@ -39,7 +39,7 @@ fn renamed(text: &str) -> BTreeMap<String, String> {
     names
 }
 
-/// The names that a body calls and that are not among those resolved.
+// The names that a body calls and that are not among those resolved.
 pub fn missed(file: &str, body: &str, resolved: &BTreeSet<String>) -> Vec<String> {
     let renamed = renamed(file);
     let mut missed = Vec::new();

@@ -1,13 +1,13 @@
-//! The parser of expressions, with Rust's precedence. It tells an index from an array literal, and a
-//! block from a struct literal, by where they stand.
+// The parser of expressions, with Rust's precedence. It tells an index from an array literal, and a
+// block from a struct literal, by where they stand.
 
 use crate::lex::Token;
 use crate::parse::{Outcome, Parser};
 use crate::tree::{Mention, Path};
 
-/// What an expression is, as far as it matters for what follows it.
+// What an expression is, as far as it matters for what follows it.
 enum Shape {
-    /// A path whose mention is still to be made: it may be called.
+    // A path whose mention is still to be made: it may be called.
     Path(usize, Path),
     Other,
 }
@@ -35,8 +35,8 @@ fn precedence(token: &Token) -> Option<u8> {
 }
 
 impl Parser<'_> {
-    /// An expression. In the head of an `if`, `while`, `match` or `for`, where a brace opens the
-    /// block, no struct literal may stand: `braces` is false there.
+    // An expression. In the head of an `if`, `while`, `match` or `for`, where a brace opens the
+    // block, no struct literal may stand: `braces` is false there.
     pub fn expression(&mut self, braces: bool) -> Outcome<()> {
         if self.at("..") || self.at("..=") {
             return self.range(braces);
@@ -52,7 +52,7 @@ impl Parser<'_> {
         Ok(())
     }
 
-    /// A range from its dots on.
+    // A range from its dots on.
     fn range(&mut self, braces: bool) -> Outcome<()> {
         self.advance()?;
         if self.ends_expression(braces) {
@@ -102,7 +102,7 @@ impl Parser<'_> {
         self.postfix(shape)
     }
 
-    /// Mentions a path that is not called.
+    // Mentions a path that is not called.
     fn settle(&mut self, shape: Shape) {
         if let Shape::Path(line, path) = shape {
             self.mention(line, Mention::Value(path));
@@ -216,7 +216,7 @@ impl Parser<'_> {
         }
     }
 
-    /// A path, a struct literal or a macro.
+    // A path, a struct literal or a macro.
     fn named(&mut self, line: usize, braces: bool) -> Outcome<Shape> {
         let path = self.path(false)?;
         if self.at("!") {
@@ -247,7 +247,7 @@ impl Parser<'_> {
         Ok(Shape::Other)
     }
 
-    /// Passes the tokens of a macro from its opening bracket to the closing one.
+    // Passes the tokens of a macro from its opening bracket to the closing one.
     fn pass_group(&mut self) -> Outcome<()> {
         let mut depth = 0;
         loop {

@@ -1,11 +1,11 @@
-//! The parser of items: functions with their contracts, structs, enums, constants, modules,
-//! imports and implementations.
+// The parser of items: functions with their contracts, structs, enums, constants, modules,
+// imports and implementations.
 
 use crate::lex::{self, Token};
 use crate::parse::{Outcome, Parser};
 use crate::tree::{Constant, Declared, Function, Import, Item, Mention, Path};
 
-/// The items of a file.
+// The items of a file.
 pub fn parse(file: &str, text: &str) -> Outcome<Vec<Item>> {
     let mut parser = Parser::new(file, text)?;
     let mut items = Vec::new();
@@ -16,7 +16,7 @@ pub fn parse(file: &str, text: &str) -> Outcome<Vec<Item>> {
 }
 
 impl Parser<'_> {
-    /// An item; none where the line is of the other language.
+    // An item; none where the line is of the other language.
     fn item(&mut self) -> Outcome<Option<Item>> {
         self.attributes()?;
         if self.at_word("ghost") {
@@ -47,7 +47,7 @@ impl Parser<'_> {
         self.function_or_constant().map(Some)
     }
 
-    /// Attributes. One that is not known might change what an item means.
+    // Attributes. One that is not known might change what an item means.
     fn attributes(&mut self) -> Outcome<()> {
         while self.take("#")? {
             self.expect("[")?;
@@ -145,7 +145,7 @@ impl Parser<'_> {
         })
     }
 
-    /// The parameters `<'a, T>` of an item: the names of its types.
+    // The parameters `<'a, T>` of an item: the names of its types.
     fn parameters(&mut self) -> Outcome<Vec<String>> {
         let mut names = Vec::new();
         if self.take("<")? {
@@ -228,7 +228,7 @@ impl Parser<'_> {
         self.type_()
     }
 
-    /// A field of a tuple struct.
+    // A field of a tuple struct.
     fn place(&mut self) -> Outcome<()> {
         self.visibility()?;
         self.type_()
@@ -308,7 +308,7 @@ impl Parser<'_> {
         Ok(function)
     }
 
-    /// The parameter `self` in any of its forms; says whether there is one.
+    // The parameter `self` in any of its forms; says whether there is one.
     fn receiver(&mut self) -> Outcome<bool> {
         let here = self.now.clone();
         if self.take("&")? && self.now.token == Token::Lifetime {

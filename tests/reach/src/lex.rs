@@ -1,7 +1,7 @@
-//! The lexer: tokens of Rattle source, taken one at a time from a place in the text. The parser
-//! decides where a token is taken, since the text of a contract has none.
+// The lexer: tokens of Rattle source, taken one at a time from a place in the text. The parser
+// decides where a token is taken, since the text of a contract has none.
 
-/// A fault of the source: where it stands, and what it is.
+// A fault of the source: where it stands, and what it is.
 #[derive(Clone, Debug)]
 pub struct Fault {
     pub file: String,
@@ -9,7 +9,7 @@ pub struct Fault {
     pub words: String,
 }
 
-/// A place in a text: a byte offset and its line, from 1.
+// A place in a text: a byte offset and its line, from 1.
 #[derive(Clone, Copy, Debug)]
 pub struct Place {
     pub offset: usize,
@@ -20,14 +20,14 @@ pub const START: Place = Place { offset: 0, line: 1 };
 
 #[derive(Clone, Debug, PartialEq)]
 pub enum Token {
-    /// A name or a keyword.
+    // A name or a keyword.
     Name(String),
     Lifetime,
-    /// A number, a byte or a character.
+    // A number, a byte or a character.
     Scalar,
-    /// A string.
+    // A string.
     Text,
-    /// A byte string.
+    // A byte string.
     ByteText,
     Symbol(&'static str),
     End,
@@ -40,7 +40,7 @@ pub struct Lexed {
     pub end: Place,
 }
 
-/// The symbols, each before those that it begins with.
+// The symbols, each before those that it begins with.
 const SYMBOLS: [&str; 49] = [
     "<<=", ">>=", "...", "..=", "::", "->", "=>", "..", "==", "!=", "<=", ">=", "&&", "||", "+=",
     "-=", "*=", "/=", "%=", "&=", "|=", "^=", "<<", ">>", "{", "}", "(", ")", "[", "]", ";", ",",
@@ -88,7 +88,7 @@ impl Reader<'_> {
         Err((self.place.line, words.to_string()))
     }
 
-    /// Passes blanks and comments; a block comment may hold others.
+    // Passes blanks and comments; a block comment may hold others.
     fn pass_blanks(&mut self) -> Result<(), Refusal> {
         loop {
             if self.rest().starts_with("//") {
@@ -126,7 +126,7 @@ impl Reader<'_> {
         }
     }
 
-    /// Passes a quoted text from its opening mark on.
+    // Passes a quoted text from its opening mark on.
     fn pass_quoted(&mut self, mark: char) -> Result<(), Refusal> {
         self.advance();
         loop {
@@ -142,7 +142,7 @@ impl Reader<'_> {
         }
     }
 
-    /// Passes a raw text from its `r` on.
+    // Passes a raw text from its `r` on.
     fn pass_raw(&mut self) -> Result<(), Refusal> {
         self.advance();
         let mut hashes = 0;
@@ -163,7 +163,7 @@ impl Reader<'_> {
         Ok(())
     }
 
-    /// A number; one behind a dot is a tuple's field, so that `a.0.1` has no fraction.
+    // A number; one behind a dot is a tuple's field, so that `a.0.1` has no fraction.
     fn number(&mut self, behind_dot: bool) -> Token {
         while self.peek().is_some_and(continues_name) {
             self.advance();
@@ -188,7 +188,7 @@ impl Reader<'_> {
         Token::Name(self.text[start..self.place.offset].to_string())
     }
 
-    /// A character, or a lifetime: a name with no mark behind it.
+    // A character, or a lifetime: a name with no mark behind it.
     fn quote(&mut self) -> Result<Token, Refusal> {
         let mut ahead = self.rest().chars().skip(1);
         let (first, second) = (ahead.next(), ahead.next());
@@ -241,7 +241,7 @@ impl Reader<'_> {
     }
 }
 
-/// The first token from a place on. `behind_dot` says that the token before is a dot.
+// The first token from a place on. `behind_dot` says that the token before is a dot.
 pub fn next(text: &str, from: Place, behind_dot: bool) -> Result<Lexed, Refusal> {
     let mut reader = Reader { text, place: from };
     reader.pass_blanks()?;
@@ -251,11 +251,11 @@ pub fn next(text: &str, from: Place, behind_dot: bool) -> Result<Lexed, Refusal>
     Ok(Lexed { token, start, end })
 }
 
-/// What might hide a brace or a semicolon in a text of the other language.
+// What might hide a brace or a semicolon in a text of the other language.
 const HIDING: [&str; 5] = ["--", "{-", "//", "/*", "\""];
 
-/// Passes the text of a contract clause from behind its opening brace to behind the closing one.
-/// Its braces are counted.
+// Passes the text of a contract clause from behind its opening brace to behind the closing one.
+// Its braces are counted.
 pub fn pass_clause(text: &str, from: Place) -> Result<Place, Refusal> {
     let mut reader = Reader { text, place: from };
     let mut depth = 1;
@@ -273,7 +273,7 @@ pub fn pass_clause(text: &str, from: Place) -> Result<Place, Refusal> {
     Ok(reader.place)
 }
 
-/// Passes a `ghost use` line to behind its semicolon.
+// Passes a `ghost use` line to behind its semicolon.
 pub fn pass_line(text: &str, from: Place) -> Result<Place, Refusal> {
     let mut reader = Reader { text, place: from };
     loop {

@@ -1,4 +1,4 @@
-//! A look at one function, type or constant: what it refers to, and the arrays in it.
+// A look at one function, type or constant: what it refers to, and the arrays in it.
 
 use std::collections::{BTreeMap, BTreeSet};
 
@@ -6,10 +6,10 @@ use crate::names::Space;
 use crate::program::{Definition, Home, Program};
 use crate::tree::{Mention, Mentions, Path};
 
-/// Methods of built-in types that make no array.
+// Methods of built-in types that make no array.
 const BUILT_IN_METHODS: [&str; 1] = ["len"];
 
-/// What one item refers to and what was found in it.
+// What one item refers to and what was found in it.
 #[derive(Default)]
 pub struct Look {
     pub references: BTreeMap<Definition, usize>,
@@ -23,7 +23,7 @@ fn is_one_of<'a>(path: &Path, mut names: impl Iterator<Item = &'a &'a str>) -> b
         .is_some_and(|single| names.any(|name| *name == single))
 }
 
-/// Looks at an item alone.
+// Looks at an item alone.
 pub fn look_at(program: &Program, definition: Definition) -> Look {
     let mut look = Look::default();
     match definition {
@@ -98,7 +98,7 @@ impl Look {
         }
     }
 
-    /// A name in a pattern: it binds nothing where it is a constant's.
+    // A name in a pattern: it binds nothing where it is a constant's.
     fn binding(&mut self, program: &Program, home: &Home, line: usize, name: &str) {
         let names = vec![name.to_string()];
         let meant = program.resolve(home, &Path { names }, Space::Values);
@@ -168,7 +168,7 @@ impl Look {
         }
     }
 
-    /// All methods of the name that a value might have here.
+    // All methods of the name that a value might have here.
     fn method(&mut self, program: &Program, home: &Home, line: usize, name: &str) {
         let crates = program.crates_of(&program.modules[home.module].of_crate);
         let mut known = BUILT_IN_METHODS.contains(&name);
@@ -189,7 +189,7 @@ impl Look {
         }
     }
 
-    /// What is got from the functions that are called: the types of their results.
+    // What is got from the functions that are called: the types of their results.
     fn add_outputs(&mut self, program: &Program) {
         for (definition, line) in self.references.clone() {
             let Definition::Function(id) = definition else {

@@ -1,6 +1,6 @@
-//! Shows that a lookup makes no array: works out from the source which functions the lookups reach
-//! and looks at each of them. Planted sources and mutants show that it finds what it should.
-//! Usage: reach [DIR], the folder with crates.txt. The last line is 'N passed, M failed'.
+// Shows that a lookup makes no array: works out from the source which functions the lookups reach
+// and looks at each of them. Planted sources and mutants show that it finds what it should.
+// Usage: reach [DIR], the folder with crates.txt. The last line is 'N passed, M failed'.
 
 mod blocks;
 mod checks;
@@ -70,7 +70,7 @@ fn main() -> ExitCode {
     }
 }
 
-/// Prints the items that were looked at, and counts each.
+// Prints the items that were looked at, and counts each.
 fn show(kind: &str, seen: &[Seen], report: &Report, checks: &mut Checks) {
     println!("{kind} looked at: {}", seen.len());
     let found: BTreeSet<&str> = report
@@ -85,7 +85,7 @@ fn show(kind: &str, seen: &[Seen], report: &Report, checks: &mut Checks) {
     println!();
 }
 
-/// Holds what each function calls by its tokens against what was resolved.
+// Holds what each function calls by its tokens against what was resolved.
 fn look_again(source: &Source, report: &Report, checks: &mut Checks) {
     for seen in &report.functions {
         let Definition::Function(id) = seen.definition else {

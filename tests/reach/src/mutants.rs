@@ -1,6 +1,6 @@
-//! Mutants of a source that is clean, made in memory: an array or an unknown call is put into each
-//! function that is reached, and an array into each type and constant; that must be found. An array
-//! in a function that is not reached must not.
+// Mutants of a source that is clean, made in memory: an array or an unknown call is put into each
+// function that is reached, and an array into each type and constant; that must be found. An array
+// in a function that is not reached must not.
 
 use std::collections::BTreeSet;
 

@@ -1,9 +1,9 @@
-//! The resolution of names: what a path means where it stands.
+// The resolution of names: what a path means where it stands.
 
 use crate::program::{Definition, Home, Program};
 use crate::tree::Path;
 
-/// Types and modules have names apart from those of values.
+// Types and modules have names apart from those of values.
 #[derive(Clone, Copy, PartialEq, Eq)]
 pub enum Space {
     Types,
@@ -16,7 +16,7 @@ const PRIMITIVES: [&str; 17] = [
 ];
 
 impl Program {
-    /// What a path means. The error says why it means nothing.
+    // What a path means. The error says why it means nothing.
     pub fn resolve(&self, home: &Home, path: &Path, space: Space) -> Result<Definition, String> {
         let said = |words: String| format!("{} cannot be resolved: {words}", path.text());
         let mut here = self.first(home, path, space).map_err(said)?;
@@ -32,7 +32,7 @@ impl Program {
         Ok(here)
     }
 
-    /// The type that a path means, aliases followed.
+    // The type that a path means, aliases followed.
     pub fn type_of(&self, home: &Home, path: &Path) -> Result<usize, String> {
         match self.resolve(home, path, Space::Types)? {
             Definition::Type(id) => self.unaliased(id, 0),
@@ -118,7 +118,7 @@ impl Program {
         }
     }
 
-    /// What a module has under a name, its own and what it brings by `use`.
+    // What a module has under a name, its own and what it brings by `use`.
     fn in_module(&self, id: usize, name: &str, space: Space) -> Result<Vec<Definition>, String> {
         let module = &self.modules[id];
         let own = module.entries.iter().filter(|(entry, definition)| {
@@ -162,7 +162,7 @@ impl Program {
         Ok(found)
     }
 
-    /// What a module or a type has under a name.
+    // What a module or a type has under a name.
     fn inside(&self, of: Definition, name: &str, space: Space) -> Result<Definition, String> {
         match of {
             Definition::Module(id) if name == "super" => {

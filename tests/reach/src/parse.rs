@@ -1,18 +1,18 @@
-//! The parser's common parts: tokens, paths and types. Patterns, expressions, blocks and items have
-//! files of their own. What is not known is refused.
+// The parser's common parts: tokens, paths and types. Patterns, expressions, blocks and items have
+// files of their own. What is not known is refused.
 
 use crate::lex::{self, Fault, Lexed, Place, Token};
 use crate::tree::{Mention, Mentions, Path};
 
 pub type Outcome<T> = Result<T, Fault>;
 
-/// Words that are no names; those that a path may begin with stand in `PATH_WORDS`.
-const KEYWORDS: [&str; 48] = [
+// Words that are no names; those that a path may begin with stand in `PATH_WORDS`.
+const KEYWORDS: [&str; 47] = [
     "as", "async", "await", "break", "const", "continue", "dyn", "else", "enum", "extern", "false",
     "fn", "for", "if", "impl", "in", "let", "loop", "match", "mod", "move", "mut", "pub", "ref",
     "return", "static", "struct", "trait", "true", "type", "unsafe", "use", "where", "while",
     "abstract", "become", "box", "do", "final", "macro", "override", "priv", "try", "typeof",
-    "unsized", "virtual", "yield", "gen",
+    "unsized", "virtual", "yield",
 ];
 
 const PATH_WORDS: [&str; 4] = ["crate", "self", "super", "Self"];
@@ -25,7 +25,7 @@ pub struct Parser<'a> {
     pub file: &'a str,
     pub text: &'a str,
     pub now: Lexed,
-    /// What the item that is being read mentions.
+    // What the item that is being read mentions.
     pub mentions: Mentions,
 }
 
@@ -71,7 +71,7 @@ impl<'a> Parser<'a> {
         self.mentions.push((line, mention));
     }
 
-    /// Takes the mentions that were made since the last call.
+    // Takes the mentions that were made since the last call.
     pub fn mentioned(&mut self) -> Mentions {
         std::mem::take(&mut self.mentions)
     }
@@ -80,7 +80,7 @@ impl<'a> Parser<'a> {
         lex::next(self.text, from, behind_dot).or_else(|(line, words)| self.fault_at(line, words))
     }
 
-    /// Goes on at a place of the text.
+    // Goes on at a place of the text.
     pub fn jump(&mut self, to: Place) -> Outcome<()> {
         self.now = self.lexed(to, false)?;
         Ok(())
@@ -91,7 +91,7 @@ impl<'a> Parser<'a> {
         Ok(())
     }
 
-    /// Goes on behind text of the other language, which begins behind the current token.
+    // Goes on behind text of the other language, which begins behind the current token.
     pub fn pass(&mut self, how: fn(&str, Place) -> Result<Place, (usize, String)>) -> Outcome<()> {
         match how(self.text, self.now.end) {
             Ok(place) => self.jump(place),
@@ -147,7 +147,7 @@ impl<'a> Parser<'a> {
         }
     }
 
-    /// What stands between commas up to a closing symbol, which is taken too.
+    // What stands between commas up to a closing symbol, which is taken too.
     pub fn list(
         &mut self,
         close: &str,
@@ -164,7 +164,7 @@ impl<'a> Parser<'a> {
 
     // ---- paths and types
 
-    /// A path. In a type its arguments follow at once, elsewhere behind `::`.
+    // A path. In a type its arguments follow at once, elsewhere behind `::`.
     pub fn path(&mut self, in_type: bool) -> Outcome<Path> {
         let mut names = Vec::new();
         loop {
@@ -190,7 +190,7 @@ impl<'a> Parser<'a> {
         }
     }
 
-    /// Type arguments, `<` to `>`.
+    // Type arguments, `<` to `>`.
     pub fn arguments(&mut self) -> Outcome<()> {
         self.expect("<")?;
         while !self.at(">") && !self.at(">>") {

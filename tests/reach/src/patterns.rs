@@ -1,11 +1,11 @@
-//! The parser of patterns and literals.
+// The parser of patterns and literals.
 
 use crate::lex::Token;
 use crate::parse::{is_name, Outcome, Parser};
 use crate::tree::Mention;
 
 impl Parser<'_> {
-    /// A pattern, with its alternatives.
+    // A pattern, with its alternatives.
     pub fn pattern(&mut self) -> Outcome<()> {
         self.take("|")?;
         self.one_pattern()?;
@@ -65,7 +65,7 @@ impl Parser<'_> {
         self.range_end()
     }
 
-    /// A closure's parameter.
+    // A closure's parameter.
     pub fn closure_parameter(&mut self) -> Outcome<()> {
         self.one_pattern()?;
         match self.take(":")? {
@@ -118,7 +118,7 @@ impl Parser<'_> {
         Ok(())
     }
 
-    /// A literal, with its sign; says whether there was one.
+    // A literal, with its sign; says whether there was one.
     pub fn literal(&mut self) -> Outcome<bool> {
         let line = self.line();
         if self.at("-") && self.ahead()? == Token::Scalar {

@@ -1,8 +1,8 @@
-//! The planted sources: small trees with something in them that must be found, or with what looks
-//! like it and must not be. The file `expect` of each has lines
-//!   root PATH            a root
-//!   reached PATH         a function that is reached; where there is one, they must be all
-//!   finds PATH: WORDS    a finding with these words; of no other names are there findings
+// The planted sources: small trees with something in them that must be found, or with what looks
+// like it and must not be. The file `expect` of each has lines
+//   root PATH            a root
+//   reached PATH         a function that is reached; where there is one, they must be all
+//   finds PATH: WORDS    a finding with these words; of no other names are there findings
 
 use std::collections::BTreeSet;
 use std::fs;

@@ -1,5 +1,5 @@
-//! The program that a source makes: the modules of each crate, and the functions, types and
-//! constants in them.
+// The program that a source makes: the modules of each crate, and the functions, types and
+// constants in them.
 
 use std::cell::RefCell;
 use std::collections::{BTreeMap, BTreeSet};
@@ -15,10 +15,10 @@ pub enum Definition {
     Function(usize),
     Type(usize),
     Constant(usize),
-    /// A variant of an enum.
+    // A variant of an enum.
     Variant(usize),
     Primitive(&'static str),
-    /// A type parameter.
+    // A type parameter.
     Parameter,
 }
 
@@ -30,8 +30,8 @@ pub struct Module {
     pub imports: Vec<Import>,
 }
 
-/// Where an item stands: its module, its file and, in an implementation, the type and its
-/// parameters.
+// Where an item stands: its module, its file and, in an implementation, the type and its
+// parameters.
 #[derive(Clone)]
 pub struct Home {
     pub module: usize,
@@ -40,7 +40,7 @@ pub struct Home {
     pub parameters: Vec<String>,
 }
 
-/// An item, its whole path and where it stands.
+// An item, its whole path and where it stands.
 pub struct Placed<T> {
     pub item: T,
     pub path: String,
@@ -60,14 +60,14 @@ pub struct Program {
     pub functions: Vec<Placed<Function>>,
     pub types: Vec<Placed<Declared>>,
     pub constants: Vec<Placed<Constant>>,
-    /// The module of each crate that has a source.
+    // The module of each crate that has a source.
     pub roots: BTreeMap<String, usize>,
     pub dependencies: BTreeMap<String, Vec<String>>,
-    /// What stands in implementations, by type and name.
+    // What stands in implementations, by type and name.
     pub members: BTreeMap<(usize, String), Definition>,
     pub faults: Vec<Fault>,
     implementations: Vec<Implementation>,
-    /// The imports that are being resolved, as types or as values: none stands for itself.
+    // The imports that are being resolved, as types or as values: none stands for itself.
     pub active: RefCell<Vec<(usize, usize, bool)>>,
 }
 
@@ -127,7 +127,7 @@ impl Program {
         self.modules.len() - 1
     }
 
-    /// Fills a module with its items. The files of its modules stand in the folder.
+    // Fills a module with its items. The files of its modules stand in the folder.
     fn fill(
         &mut self,
         module: usize,
@@ -196,7 +196,7 @@ impl Program {
         }
     }
 
-    /// Places a function, a type or a constant, in a module or in an implementation.
+    // Places a function, a type or a constant, in a module or in an implementation.
     fn place(&mut self, item: Item, home: &Home) {
         let before = match home.owner {
             Some(owner) => self.types[owner].path.clone(),
@@ -277,7 +277,7 @@ impl Program {
         }
     }
 
-    /// The crates that a crate reaches through the list, itself with them.
+    // The crates that a crate reaches through the list, itself with them.
     pub fn crates_of(&self, name: &str) -> BTreeSet<String> {
         let mut reached = BTreeSet::new();
         let mut ahead = vec![name.to_string()];

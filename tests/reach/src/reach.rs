@@ -1,4 +1,4 @@
-//! What is reached from the roots: functions, types and constants, and what is found in them.
+// What is reached from the roots: functions, types and constants, and what is found in them.
 
 use std::collections::{BTreeMap, BTreeSet};
 
@@ -9,18 +9,18 @@ use crate::source::Source;
 use crate::tree::Path;
 
 pub struct Finding {
-    /// The function, or the file where it is of none.
+    // The function, or the file where it is of none.
     pub name: String,
     pub place: String,
     pub words: String,
 }
 
-/// An item that was looked at.
+// An item that was looked at.
 pub struct Seen {
     pub path: String,
     pub place: String,
     pub definition: Definition,
-    /// The names of what it refers to.
+    // The names of what it refers to.
     pub names: BTreeSet<String>,
 }
 
@@ -32,7 +32,7 @@ pub struct Report {
     pub findings: Vec<Finding>,
 }
 
-/// Looks at all that the roots reach.
+// Looks at all that the roots reach.
 pub fn analyse(source: &Source, roots: &[String]) -> Report {
     let program = Program::new(source);
     let mut findings: Vec<Finding> = program
@@ -147,7 +147,7 @@ impl Report {
     }
 }
 
-/// The path, the file and the line of an item.
+// The path, the file and the line of an item.
 fn described(program: &Program, definition: Definition) -> (String, String, usize) {
     match definition {
         Definition::Function(id) => {
@@ -178,7 +178,7 @@ fn described(program: &Program, definition: Definition) -> (String, String, usiz
     }
 }
 
-/// Where a type or a constant holds an array, through all that it refers to.
+// Where a type or a constant holds an array, through all that it refers to.
 fn holds_array(
     program: &Program,
     from: Definition,

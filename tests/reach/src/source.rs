@@ -1,4 +1,4 @@
-//! The source of the crates that crates.txt lists: its texts, read from a folder.
+// The source of the crates that crates.txt lists: its texts, read from a folder.
 
 use std::collections::BTreeMap;
 use std::fs;
@@ -6,7 +6,7 @@ use std::path::Path;
 
 use crate::lex::Fault;
 
-/// A crate that is listed, and the crates that it may name.
+// A crate that is listed, and the crates that it may name.
 #[derive(Clone)]
 pub struct Listed {
     pub name: String,
@@ -16,7 +16,7 @@ pub struct Listed {
 #[derive(Clone)]
 pub struct Source {
     pub crates: Vec<Listed>,
-    /// The texts by their paths from the folder on, `crates/NAME/src/..`.
+    // The texts by their paths from the folder on, `crates/NAME/src/..`.
     pub texts: BTreeMap<String, String>,
     pub faults: Vec<Fault>,
 }
@@ -46,7 +46,7 @@ impl Source {
         self.faults.push(Fault { file, line, words });
     }
 
-    /// Reads the lines `NAME: DEP DEP ..`.
+    // Reads the lines `NAME: DEP DEP ..`.
     fn list(&mut self, text: &str) {
         for (number, line) in (1..).zip(text.lines()) {
             let line = line.split('#').next().unwrap_or_default().trim();
@@ -89,7 +89,7 @@ impl Source {
         }
     }
 
-    /// The same source with words put in at an offset of a file.
+    // The same source with words put in at an offset of a file.
     pub fn with(&self, file: &str, offset: usize, words: &str) -> Source {
         let mut source = self.clone();
         if let Some(text) = source.texts.get_mut(file) {

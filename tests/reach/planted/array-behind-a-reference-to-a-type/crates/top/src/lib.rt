@@ -1,0 +1,3 @@
+pub fn start(r: &&mut leaf::Row) -> u32 {
+    r.first()
+}
