@@ -1,0 +1,1 @@
+pub use leaf::table as quiet;

@@ -1,0 +1,3 @@
+pub mod front;
+
+pub use front::quiet as silent;

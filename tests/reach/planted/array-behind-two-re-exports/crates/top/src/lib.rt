@@ -1,0 +1,4 @@
+use middle::silent;
+pub fn start(x: u32) -> u32 {
+    silent() + x
+}

@@ -1,0 +1,5 @@
+pub enum Answer {
+    Few(u32),
+    None,
+    Many { words: [u32; 4] },
+}
