@@ -60,7 +60,8 @@ struct Reader<'a> {
     place: Place,
 }
 
-type Refusal = (usize, String);
+// The line and the words of what is refused.
+pub type Refusal = (usize, String);
 
 impl Reader<'_> {
     fn rest(&self) -> &str {

@@ -1,7 +1,7 @@
 // The parser's common parts: tokens, paths and types. Patterns, expressions, blocks and items have
 // files of their own. What is not known is refused.
 
-use crate::lex::{self, Fault, Lexed, Place, Token};
+use crate::lex::{self, Fault, Lexed, Place, Refusal, Token};
 use crate::tree::{Mention, Mentions, Path};
 
 pub type Outcome<T> = Result<T, Fault>;
@@ -92,7 +92,7 @@ impl<'a> Parser<'a> {
     }
 
     // Goes on behind text of the other language, which begins behind the current token.
-    pub fn pass(&mut self, how: fn(&str, Place) -> Result<Place, (usize, String)>) -> Outcome<()> {
+    pub fn pass(&mut self, how: fn(&str, Place) -> Result<Place, Refusal>) -> Outcome<()> {
         match how(self.text, self.now.end) {
             Ok(place) => self.jump(place),
             Err((line, words)) => self.fault_at(line, words),
