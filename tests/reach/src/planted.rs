@@ -1,5 +1,6 @@
 // The planted sources: small trees with something in them that must be found, or with what looks
-// like it and must not be. The file `expect` of each has lines
+// like it and must not be. Their files end in `.rt.txt`, since a file `.rt` would have to be proved.
+// The file `expect` of each has lines
 //   root PATH            a root
 //   reached PATH         a function that is reached; where there is one, they must be all
 //   finds PATH: WORDS    a finding with these words; of no other names are there findings
@@ -41,7 +42,7 @@ pub fn run(folder: &Path, checks: &mut Checks) {
 fn try_one(folder: &Path) -> Result<String, String> {
     let text = fs::read_to_string(folder.join("expect")).map_err(|error| error.to_string())?;
     let expected = read(&text)?;
-    let report = reach::analyse(&Source::read(folder), &expected.roots);
+    let report = reach::analyse(&Source::read(folder, ".rt.txt"), &expected.roots);
     compare(&expected, &report)
 }
 

@@ -22,7 +22,8 @@ pub struct Source {
 }
 
 impl Source {
-    pub fn read(folder: &Path) -> Source {
+    // Reads the files with an ending, `.rt`, or another where they are no part of the product.
+    pub fn read(folder: &Path, ending: &str) -> Source {
         let mut source = Source {
             crates: Vec::new(),
             texts: BTreeMap::new(),
@@ -36,7 +37,7 @@ impl Source {
             source.fault("crates.txt", 0, "lists no crate".to_string());
         }
         for listed in source.crates.clone() {
-            source.read_folder(folder, &format!("crates/{}/src", listed.name));
+            source.read_folder(folder, &format!("crates/{}/src", listed.name), ending);
         }
         source
     }
@@ -67,7 +68,7 @@ impl Source {
         }
     }
 
-    fn read_folder(&mut self, folder: &Path, inside: &str) {
+    fn read_folder(&mut self, folder: &Path, inside: &str, ending: &str) {
         let entries = match fs::read_dir(folder.join(inside)) {
             Ok(entries) => entries,
             Err(error) => return self.fault(inside, 0, format!("cannot be read: {error}")),
@@ -79,11 +80,12 @@ impl Source {
             };
             let path = format!("{inside}/{}", entry.file_name().to_string_lossy());
             if entry.path().is_dir() {
-                self.read_folder(folder, &path);
-            } else if path.ends_with(".rt") {
+                self.read_folder(folder, &path, ending);
+            } else if let Some(stem) = path.strip_suffix(ending) {
+                let file = format!("{stem}.rt");
                 match fs::read_to_string(entry.path()) {
-                    Ok(text) => drop(self.texts.insert(path, text)),
-                    Err(error) => self.fault(&path, 0, format!("cannot be read: {error}")),
+                    Ok(text) => drop(self.texts.insert(file, text)),
+                    Err(error) => self.fault(&file, 0, format!("cannot be read: {error}")),
                 }
             }
         }
