@@ -69,10 +69,11 @@ bench: target/bench_judge target/bench_step target/bench_batches target/bench_lo
 fmt:
 	rt fmt
 	cd tests && cargo fmt
+	cd tests/reach && cargo fmt
 	clang-format -i $(C_FILES)
 
 clean:
-	rm -rf target tests/target
+	rm -rf target tests/target tests/reach/target
 
 # The library of C functions, proved before it is written.
 $(LIBRARY): $(SOURCES)
