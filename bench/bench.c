@@ -138,6 +138,16 @@ void fill_one_term(uint32_t *card, uint32_t live, uint32_t term, uint32_t first)
     must_be_sound(card);
 }
 
+void fill_one_a_block(uint32_t *card) {
+    start_card(card, LIVE_PLACES);
+    for (uint32_t k = 0; k < LIVE_PLACES; k++) {
+        uint32_t place = (OLD_START + k) % PLACES;
+        memcpy(block_at(card, place), (const uint32_t[]){1, 1, k + 1}, sizeof(uint32_t[3]));
+        enter(card, place);
+    }
+    must_be_sound(card);
+}
+
 void fill_entries(uint32_t *card, uint32_t live, uint32_t count, position_maker *position) {
     uint32_t term = 1;
     start_card(card, live);

@@ -59,6 +59,9 @@ struct holders holders_of(uint32_t *card, uint32_t term);
 /* Fills the live places with one term, from its first position on. */
 void fill_one_term(uint32_t *card, uint32_t live, uint32_t term, uint32_t first);
 
+/* Fills all live places with term 1, one position to a block: 1, 2, 3 and so on. */
+void fill_one_a_block(uint32_t *card);
+
 /* The position with a number, from 0, of a term; the positions of a term rise. */
 typedef uint32_t position_maker(uint32_t term, uint32_t i);
 

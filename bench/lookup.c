@@ -204,6 +204,8 @@ int main(void) {
     show_beyond_judge(&desk, "the first, its middle", (struct question){1, 70001, 200000});
     fill_one_term(desk.card, LIVE_PLACES, 1, 1);
     show_beyond_judge(&desk, "one term, whole card", (struct question){1, GI_LOWEST, GI_HIGHEST});
+    fill_one_a_block(desk.card);
+    show_beyond_judge(&desk, "one to a block", (struct question){1, GI_LOWEST, GI_HIGHEST});
     fill_small(desk.card);
     desk.card_len = SMALL_CARD_WORDS;
     show_beyond_judge(&desk, "one term, blocks of 8", (struct question){1, GI_LOWEST, GI_HIGHEST});

@@ -116,16 +116,6 @@ static void show(const char *what, struct times times) {
            times.page * 1e3, times.judge * 1e3, page * ns, times.plain * ns, page / times.plain);
 }
 
-/* Fills the live places with one term, one position to a block. */
-static void fill_one_a_block(uint32_t *card) {
-    start_card(card, LIVE_PLACES);
-    for (uint32_t k = 0; k < LIVE_PLACES; k++) {
-        uint32_t place = (OLD_START + k) % PLACES;
-        memcpy(block_at(card, place), (const uint32_t[]){1, 1, k + 1}, sizeof(uint32_t[3]));
-        memcpy(map_entry_at(card, place), (const uint32_t[]){1, k + 1}, sizeof(uint32_t[2]));
-    }
-}
-
 int main(void) {
     uint32_t *card = words_for(CARD_WORDS);
     uint8_t *page = bytes_for(gi_page_bytes(CARD_WORDS));
