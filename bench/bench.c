@@ -77,6 +77,18 @@ void start_card(uint32_t *card, uint32_t live) {
     card[GI_CONFIG_OLD_LENGTH] = live;
 }
 
+uint32_t *small_block_at(uint32_t *card, uint32_t place) {
+    return card + GI_CONFIG_WORDS + PLACES * GI_MAP_ENTRY_WORDS + (size_t)place * SMALL_BLOCK_WORDS;
+}
+
+void start_small_card(uint32_t *card) {
+    memset(card, 0, SMALL_CARD_WORDS * sizeof *card);
+    if (gi_format(card, SMALL_CARD_WORDS, SMALL_BLOCK_WORDS, PLACES) != GI_DONE)
+        give_up("the card was not formatted");
+    card[GI_CONFIG_OLD_START] = OLD_START;
+    card[GI_CONFIG_OLD_LENGTH] = LIVE_PLACES;
+}
+
 /* Writes the map entry of a place whose block is filled. */
 static void enter(uint32_t *card, uint32_t place) {
     const uint32_t *block = block_at(card, place);

@@ -13,6 +13,8 @@ enum {
     PLACES = GI_PLACES_MAX,
     LIVE_PLACES = PLACES - 1, /* of a full card */
     CARD_WORDS = GI_CARD_WORDS_MAX,
+    SMALL_BLOCK_WORDS = GI_BLOCK_WORDS_MIN,
+    SMALL_CARD_WORDS = GI_CONFIG_WORDS + PLACES * (GI_MAP_ENTRY_WORDS + SMALL_BLOCK_WORDS),
     OLD_START = 700, /* so that the segment goes around the circle */
     APART = 3,       /* how far a term's positions are apart */
     BATCH_WORDS = GI_BATCH_RECORDS_MAX * GI_RECORD_WORDS
@@ -43,6 +45,11 @@ uint32_t *map_entry_at(uint32_t *card, uint32_t place);
 /* Makes a card with a number of live places, all old, and zeros for the rest;
  * the places still have to be filled. */
 void start_card(uint32_t *card, uint32_t live);
+
+/* The same of a card of the smallest blocks, full, and where a block of it stands; map entries
+ * stand where they do on the largest. */
+void start_small_card(uint32_t *card);
+uint32_t *small_block_at(uint32_t *card, uint32_t place);
 
 /* Where a term's entry stands in a block; BLOCK_WORDS where there is none. */
 uint32_t entry_of(const uint32_t *block, uint32_t term);

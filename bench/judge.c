@@ -11,11 +11,7 @@
 #include "bench.h"
 #include "judge_c.h"
 
-enum {
-    CALLS = 300, /* of each judge */
-    SMALL_BLOCK_WORDS = 8,
-    SMALL_CARD_WORDS = GI_CONFIG_WORDS + PLACES * (GI_MAP_ENTRY_WORDS + SMALL_BLOCK_WORDS),
-};
+enum { CALLS = 300 }; /* of each judge */
 
 typedef uint32_t judge_function(const uint32_t *card, size_t card_len);
 
@@ -95,14 +91,11 @@ static bool compare(const char *what, uint32_t *card, size_t card_len, uint32_t 
 /* A card of the smallest blocks, each with one pair. */
 static bool compare_small(void) {
     uint32_t *card = words_for(SMALL_CARD_WORDS);
-    if (gi_format(card, SMALL_CARD_WORDS, SMALL_BLOCK_WORDS, PLACES) != GI_DONE)
-        give_up("a card was not formatted");
-    card[GI_CONFIG_OLD_START] = OLD_START;
-    card[GI_CONFIG_OLD_LENGTH] = LIVE_PLACES;
+    start_small_card(card);
     for (uint32_t k = 0; k < LIVE_PLACES; k++) {
         uint32_t place = (OLD_START + k) % PLACES;
-        uint32_t *entry = card + GI_CONFIG_WORDS + place * GI_MAP_ENTRY_WORDS;
-        uint32_t *block = card + GI_CONFIG_WORDS + PLACES * GI_MAP_ENTRY_WORDS + place * SMALL_BLOCK_WORDS;
+        uint32_t *entry = map_entry_at(card, place);
+        uint32_t *block = small_block_at(card, place);
         block[0] = entry[0] = k + 1;
         block[1] = 1;
         block[2] = entry[1] = 7;

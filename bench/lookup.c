@@ -13,7 +13,7 @@
 #include "bench.h"
 #include "lookup_c.h"
 
-enum { CALLS = 400, SMALL_BLOCK_WORDS = 8, SMALL_CARD_WORDS = GI_CONFIG_WORDS + PLACES * (GI_MAP_ENTRY_WORDS + 8) };
+enum { CALLS = 400 };
 
 /* A card, the answer words, and what the answer is to be. */
 struct desk {
@@ -163,16 +163,11 @@ static void show_beyond_judge(const struct desk *desk, const char *what, struct 
 /* Fills a card of the smallest blocks with one term. */
 static void fill_small(uint32_t *card) {
     enum { POSITIONS = SMALL_BLOCK_WORDS - 2 };
-    uint32_t *blocks = card + GI_CONFIG_WORDS + PLACES * GI_MAP_ENTRY_WORDS;
-    memset(card, 0, SMALL_CARD_WORDS * sizeof *card);
-    if (gi_format(card, SMALL_CARD_WORDS, SMALL_BLOCK_WORDS, PLACES) != GI_DONE)
-        give_up("a card was not formatted");
-    card[GI_CONFIG_OLD_START] = OLD_START;
-    card[GI_CONFIG_OLD_LENGTH] = LIVE_PLACES;
+    start_small_card(card);
     for (uint32_t k = 0; k < LIVE_PLACES; k++) {
         uint32_t place = (OLD_START + k) % PLACES;
         uint32_t *entry = map_entry_at(card, place);
-        uint32_t *block = blocks + place * SMALL_BLOCK_WORDS;
+        uint32_t *block = small_block_at(card, place);
         block[0] = entry[0] = 1;
         block[1] = POSITIONS;
         for (uint32_t i = 0; i < POSITIONS; i++)

@@ -44,7 +44,33 @@ pub struct Home {
 pub struct Placed<T> {
     pub item: T,
     pub path: String,
+    pub line: usize,
     pub home: Home,
+}
+
+impl<T> Placed<T> {
+    // Its path, its file and its line.
+    pub fn described(&self) -> (String, String, usize) {
+        (self.path.clone(), self.home.file.clone(), self.line)
+    }
+}
+
+// Adds an item to a list; gives its number there.
+fn keep<T>(
+    list: &mut Vec<Placed<T>>,
+    item: T,
+    before: &str,
+    name: &str,
+    line: usize,
+    home: &Home,
+) -> usize {
+    list.push(Placed {
+        item,
+        path: format!("{before}::{name}"),
+        line,
+        home: home.clone(),
+    });
+    list.len() - 1
 }
 
 struct Implementation {
@@ -202,37 +228,21 @@ impl Program {
             Some(owner) => self.types[owner].path.clone(),
             None => self.modules[home.module].path.clone(),
         };
-        let home = home.clone();
         let (name, line, definition) = match item {
             Item::Function(item) => {
                 let (name, line) = (item.name.clone(), item.line);
-                let path = format!("{before}::{name}");
-                self.functions.push(Placed {
-                    item,
-                    path,
-                    home: home.clone(),
-                });
-                (name, line, Definition::Function(self.functions.len() - 1))
+                let id = keep(&mut self.functions, item, &before, &name, line, home);
+                (name, line, Definition::Function(id))
             }
             Item::Declared(item) => {
                 let (name, line) = (item.name.clone(), item.line);
-                let path = format!("{before}::{name}");
-                self.types.push(Placed {
-                    item,
-                    path,
-                    home: home.clone(),
-                });
-                (name, line, Definition::Type(self.types.len() - 1))
+                let id = keep(&mut self.types, item, &before, &name, line, home);
+                (name, line, Definition::Type(id))
             }
             Item::Constant(item) => {
                 let (name, line) = (item.name.clone(), item.line);
-                let path = format!("{before}::{name}");
-                self.constants.push(Placed {
-                    item,
-                    path,
-                    home: home.clone(),
-                });
-                (name, line, Definition::Constant(self.constants.len() - 1))
+                let id = keep(&mut self.constants, item, &before, &name, line, home);
+                (name, line, Definition::Constant(id))
             }
             _ => return,
         };

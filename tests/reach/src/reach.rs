@@ -150,30 +150,9 @@ impl Report {
 // The path, the file and the line of an item.
 fn described(program: &Program, definition: Definition) -> (String, String, usize) {
     match definition {
-        Definition::Function(id) => {
-            let placed = &program.functions[id];
-            (
-                placed.path.clone(),
-                placed.home.file.clone(),
-                placed.item.line,
-            )
-        }
-        Definition::Type(id) => {
-            let placed = &program.types[id];
-            (
-                placed.path.clone(),
-                placed.home.file.clone(),
-                placed.item.line,
-            )
-        }
-        Definition::Constant(id) => {
-            let placed = &program.constants[id];
-            (
-                placed.path.clone(),
-                placed.home.file.clone(),
-                placed.item.line,
-            )
-        }
+        Definition::Function(id) => program.functions[id].described(),
+        Definition::Type(id) => program.types[id].described(),
+        Definition::Constant(id) => program.constants[id].described(),
         _ => (String::new(), String::new(), 0),
     }
 }
