@@ -1,8 +1,9 @@
 /* Times lookups. First against the judge alone on the same card, since every lookup
  * judges first: frequent and rare terms of the largest card, full. Then what a
  * lookup and a posting reader take beyond the judge, against a lookup in plain C.
- * That one runs behind a judge, and all write the same answer words, which are
- * overwritten before each call: so all find card and answer in the same caches.
+ * That one runs behind a judge, and all write the same answer words. Before each
+ * call these are overwritten, and after it they are compared to the end: so each
+ * call, the judge alone too, finds card and answer in the same caches.
  * The calls take turns; what is beyond the judge is the difference to the judge
  * alone in the same turn, and the median of each counts. */
 #include <inttypes.h>
@@ -46,8 +47,16 @@ static void forget(const struct desk *desk, uint32_t found) {
     memset(desk->answer, 0xff, found * sizeof *desk->answer);
 }
 
+/* How many of so many answer words are not as expected; it reads them all. */
+static uint32_t differences(const struct desk *desk, uint32_t count) {
+    uint32_t different = 0;
+    for (uint32_t i = 0; i < count; i++)
+        different += desk->answer[i] != desk->expected[i];
+    return different;
+}
+
 static void must_agree(const struct desk *desk, uint32_t found, uint32_t expected) {
-    if (found != expected || memcmp(desk->answer, desk->expected, found * sizeof *desk->answer) != 0)
+    if (found != expected || differences(desk, found) != 0)
         give_up("answers differ");
 }
 
@@ -58,6 +67,8 @@ static double timed_judge_of(const struct desk *desk, uint32_t expected) {
     double took = seconds() - began;
     if (number != GI_DONE)
         give_up("a sound card was refused");
+    if (differences(desk, expected) != expected)
+        give_up("the judge wrote answer words");
     return took;
 }
 
