@@ -1,6 +1,7 @@
 pub mod Annulling
 pub mod Claims
 pub mod Decisions
+pub mod EmptyRanges
 pub mod Filling
 pub mod InOrder
 pub mod Local

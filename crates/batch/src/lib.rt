@@ -71,8 +71,7 @@ fn ill_formed(u: Record) -> bool
         | ((term != 0) & (kind != ADDS) & (kind != REMOVES))
         | (from == 0)
         | (to == 0)
-        | (to < from)
-        | ((kind == ADDS) & (from < to))
+        | ((kind == ADDS) & (from != to))
 }
 
 // The batch's number, 0 where it is in order.

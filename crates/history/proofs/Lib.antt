@@ -2,6 +2,7 @@ pub mod Answers
 pub mod BlocksRead
 pub mod Demand3
 pub mod EmptyBatch
+pub mod EmptyRanges
 pub mod Events
 pub mod Keeping
 pub mod Kept

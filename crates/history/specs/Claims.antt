@@ -1,9 +1,9 @@
 -- What is claimed of the definitions, each as a type that a theorem inhabits.
-use Prim.Native.Nat.{ℕ, _+_, _-_, _≤_, _<_}
+use Prim.Native.Nat.{ℕ, _+_, _-_, _%_, _≤_, _<_}
 use mathlib.Core.Path.{_≡_}
 use mathlib.Core.Bool.{Bool, true, false, _&&_, _||_}
-use mathlib.Core.Logic.{_⊎_}
-use mathlib.Core.List.{List, [], _∷_, map}
+use mathlib.Core.Logic.{_≢_, _⊎_}
+use mathlib.Core.List.{List, [], _∷_, _++_, map}
 use lib.Dec.{eqb}
 use lib.ListN.{length, take, drop, getD}
 use Rattle.pair.specs.Rank.{rank, Words}
@@ -11,7 +11,7 @@ use Rattle.pair.specs.Rising.{above, atMost}
 use Rattle.block.specs.Block.{fitting}
 use Rattle.card.specs.Layout.{word, placeCount, oldLength, newLength, blockSize, boundary, oldPlaces, newPlaces, live, formatNumber}
 use Rattle.card.specs.Sound.{judged}
-use Rattle.batch.specs.Batch.{Update, updates, anyUpdate, applied, batchNumber}
+use Rattle.batch.specs.Batch.{Update, updates, anyUpdate, applied, recordWords, batchNumber}
 use Rattle.span.specs.Span.{writeSpan}
 use Rattle.update.specs.Step.{withWrite, remains, stepNumber, step}
 use Rattle.update.specs.Pass.{stepLimit, finishesWithin, refusedWithin}
@@ -57,6 +57,12 @@ RemovalsNeverFull =
     (c b : List ℕ) (es : List Event) → Words c → Words b → AllOfWords es → judged c ≡ 0 → batchNumber b ≡ 0 →
     anyUpdate (λ u. eqb (u .kind) 1) (updates b) ≡ false → 2 ≤ freePlaces c → Keeps c b es →
     stepNumber (ran c es) b ≡ 0
+
+-- a removal whose from is above its to, in a batch in order: on every card a step is the one without it
+unfoldable pub EmptyRangeSameStep : Type 0
+EmptyRangeSameStep =
+    (c b d : List ℕ) (k t a z : ℕ) → length b % recordWords ≡ 0 → k ≢ 1 → z < a → batchNumber (b ++ k ∷ t ∷ a ∷ z ∷ d) ≡ 0 →
+    step c (b ++ k ∷ t ∷ a ∷ z ∷ d) ≡ step c (b ++ d)
 
 -- the event is a configuration write that finishes the pass, and it lands
 unfoldable pub finishing : List ℕ → Event → Bool

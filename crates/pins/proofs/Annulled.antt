@@ -46,13 +46,12 @@ pub record Rounds : Type 0 where
   pub sound : judged (afterSteps 3 annulled played) ≡ 0
   -- rounds side by side, one within another, and two that start together
   pub several : applied (updates (3 ∷ 0 ∷ 1 ∷ 3 ∷ 3 ∷ 0 ∷ 2 ∷ 2 ∷ 3 ∷ 0 ∷ 2 ∷ 5 ∷ 3 ∷ 0 ∷ 8 ∷ 8 ∷ [])) (rank 1 5 ∷ rank 1 6 ∷ rank 2 1 ∷ rank 2 7 ∷ rank 3 8 ∷ []) ≡ rank 1 6 ∷ rank 2 7 ∷ []
-  -- kind 3 with a term, kinds 1 and 2 without one, a round from 0, to 0, and back to front
+  -- kind 3 with a term, kinds 1 and 2 without one, a round from 0, and to 0
   pub three-of-a-term : batchNumber (3 ∷ 5 ∷ 2 ∷ 4 ∷ []) ≡ 6
   pub addition-of-none : batchNumber (1 ∷ 0 ∷ 2 ∷ 2 ∷ []) ≡ 6
   pub removal-of-none : batchNumber (2 ∷ 0 ∷ 2 ∷ 4 ∷ []) ≡ 6
   pub from-none : batchNumber (3 ∷ 0 ∷ 0 ∷ 4 ∷ []) ≡ 6
-  pub to-none : batchNumber (3 ∷ 0 ∷ 0 ∷ 0 ∷ []) ≡ 6
-  pub back-to-front : batchNumber (3 ∷ 0 ∷ 4 ∷ 2 ∷ []) ≡ 6
+  pub to-none : batchNumber (3 ∷ 0 ∷ 4 ∷ 0 ∷ []) ≡ 6
   -- it stands before the records of terms
   pub first : batchNumber annulled ≡ 0
   pub behind-a-term : batchNumber (1 ∷ 6 ∷ 4 ∷ 4 ∷ 3 ∷ 0 ∷ 2 ∷ 4 ∷ []) ≡ 7
@@ -71,7 +70,6 @@ rounds =
       removal-of-none = refl;
       from-none = refl;
       to-none = refl;
-      back-to-front = refl;
       first = refl;
       behind-a-term = refl;
     }

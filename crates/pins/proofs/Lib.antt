@@ -2,6 +2,7 @@ pub mod Annulled
 pub mod Computed
 pub mod Cuts
 pub mod Demand3
+pub mod EmptyRanges
 pub mod Lookups
 pub mod Pages
 pub mod Passes

@@ -181,6 +181,9 @@ pub record OutcomesComputed : Type 0 where
   pub of-none : outcome [] ≡ Finished 1
   pub of-one : outcome (65 ∷ 9 ∷ 53 ∷ 9 ∷ 50 ∷ 10 ∷ []) ≡ Finished 3
   pub of-zero : outcome (65 ∷ 9 ∷ 48 ∷ 9 ∷ 50 ∷ []) ≡ Refused 6
+  -- R 5 9 3, a range with no game in it; R 5 9 0
+  pub of-empty-range : outcome (82 ∷ 9 ∷ 53 ∷ 9 ∷ 57 ∷ 9 ∷ 51 ∷ []) ≡ Finished 1
+  pub of-range-to-zero : outcome (82 ∷ 9 ∷ 53 ∷ 9 ∷ 57 ∷ 9 ∷ 48 ∷ []) ≡ Refused 6
   pub of-every-term : outcome (82 ∷ 9 ∷ 48 ∷ 9 ∷ 50 ∷ 9 ∷ 52 ∷ []) ≡ Refused 6
   pub of-empty-line : outcome (10 ∷ []) ≡ Refused 12
   -- D, tab, 1 and N, tab, 12
@@ -194,6 +197,8 @@ outcomes-computed =
       of-none = refl;
       of-one = refl;
       of-zero = refl;
+      of-empty-range = refl;
+      of-range-to-zero = refl;
       of-every-term = refl;
       of-empty-line = refl;
       print-finished = refl;

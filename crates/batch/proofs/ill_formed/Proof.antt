@@ -1,7 +1,7 @@
 -- `batch::ill_formed` meets its contract.
 use mathlib.Core.Path.{_≡_, refl, ap}
 use mathlib.Core.Bool.{Bool, true, false, cond, _&&_, _||_, not}
-use lib.Dec.{ltb, eqb}
+use lib.Dec.{eqb}
 use Rattle.batch.specs.Batch.{illFormed}
 use Rattle.batch.proofs.ill_formed.Statement.{statement}
 use Rattle.batch.proofs.ill_formed.Tie as tie
@@ -18,7 +18,7 @@ returns : tie.Need-returns
 unfolding illFormed
 returns c =
     let u = c .args .u in
-    ap (λ k. k || eqb (u .from) 0 || eqb (u .to) 0 || ltb (u .to) (u .from) || (eqb (u .kind) 1 && ltb (u .from) (u .to)))
+    ap (λ k. k || eqb (u .from) 0 || eqb (u .to) 0 || (eqb (u .kind) 1 && not (eqb (u .from) (u .to))))
     (table (eqb (u .term) 0) (eqb (u .kind) 1) (eqb (u .kind) 2) (eqb (u .kind) 3))
 
 pub ill-formed-spec : {M : Type 1} → statement M
