@@ -73,6 +73,17 @@ static void of_a_lower_term(uint32_t i, uint32_t *record) {
     put(record, GI_RECORD_REMOVE, i < GI_BATCH_RECORDS_MAX / 2 ? 1 : TERM, i + 1, GI_HIGHEST);
 }
 
+/* Ranges with no game in them: a start every ROUND positions, some 20 pairs, to the
+ * lowest position. */
+enum { ROUND = 60 };
+
+static void empty_ranges(uint32_t i, uint32_t *record) {
+    put(record, GI_RECORD_REMOVE, TERM, ROUND * (i + 1), 1);
+}
+static void wide_with_empty_ranges(uint32_t i, uint32_t *record) {
+    put(record, GI_RECORD_REMOVE, TERM, ROUND * i + 1, i == 0 ? GI_HIGHEST : 1);
+}
+
 /* ---- annulments */
 
 static void annul(uint32_t record[GI_RECORD_WORDS], uint32_t from, uint32_t to) {
@@ -106,11 +117,15 @@ static void rounds_beyond(uint32_t i, uint32_t *record) {
     annul(record, GI_HIGHEST - GI_BATCH_RECORDS_MAX + i, GI_HIGHEST - GI_BATCH_RECORDS_MAX + i);
 }
 
-/* On a card of one term, a start every ROUND positions: some 20 pairs. */
-enum { ROUND = 60 };
-
+/* A start every ROUND positions. */
 static void wide_rounds(uint32_t i, uint32_t *record) {
     annul(record, ROUND * i + 1, GI_HIGHEST);
+}
+static void wide_with_empty_rounds(uint32_t i, uint32_t *record) {
+    annul(record, ROUND * i + 1, i == 0 ? GI_HIGHEST : 1);
+}
+static void empty_rounds(uint32_t i, uint32_t *record) {
+    annul(record, ROUND * (i + 1), 1);
 }
 static void rounds_side_by_side(uint32_t i, uint32_t *record) {
     annul(record, ROUND * i + 1, i + 1 < GI_BATCH_RECORDS_MAX ? ROUND * (i + 1) : GI_HIGHEST);
@@ -144,11 +159,17 @@ static void parts(uint32_t i, uint32_t *record) {
 static void wide_parts(uint32_t i, uint32_t *record) {
     annul(record, part_start(i), GI_HIGHEST);
 }
+static void wide_with_empty_parts(uint32_t i, uint32_t *record) {
+    annul(record, part_start(i), i == 0 ? GI_HIGHEST : part_start(i) - LENGTH);
+}
 static void parts_before_wide(uint32_t i, uint32_t *record) {
     annul(record, part_start(i), i + 1 < PARTS ? part_start(i) + LENGTH - 1 : GI_HIGHEST);
 }
 static void between_parts(uint32_t i, uint32_t *record) {
     annul(record, part_start(i) + LENGTH, part_start(i) + LENGTH);
+}
+static void empty_parts(uint32_t i, uint32_t *record) {
+    annul(record, part_start(i) + 1, part_start(i));
 }
 static void later_parts(uint32_t i, uint32_t *record) {
     annul(record, part_start(i + 1), part_start(i + 1) + LENGTH - 1);
@@ -250,6 +271,7 @@ static void time_one_term(uint32_t *card, uint32_t *batch) {
     time_whole("equal", card, batch, equal_rounds);
     time_whole("narrow ones before a wide one", card, batch, narrow_rounds_before_wide);
     time_whole("wide, starts over all positions", card, batch, wide_rounds);
+    time_whole("one wide, the others with no game in them", card, batch, wide_with_empty_rounds);
     time_whole("side by side over all positions", card, batch, rounds_side_by_side);
     time_whole("half of them, then removals of the term", card, batch, rounds_and_removals);
     heading("annulments until a block is full, same card");
@@ -258,9 +280,11 @@ static void time_one_term(uint32_t *card, uint32_t *batch) {
     time_part("of nothing, between the positions", card, batch, rounds_in_gaps);
     time_part("of nothing, between two positions", card, batch, rounds_in_one_gap);
     time_part("of nothing, beyond the last", card, batch, rounds_beyond);
+    time_part("of nothing, from above to", card, batch, empty_rounds);
 }
 
-/* The same records on entries whose positions they all withdraw. */
+/* The same records on entries whose positions they all withdraw; in the last row the
+ * first of them alone does, and the others have no game in them. */
 static void time_entries(const char *name, uint32_t *card, uint32_t *batch, uint32_t count, position_maker *position) {
     char row[64];
     spread = count;
@@ -269,6 +293,8 @@ static void time_entries(const char *name, uint32_t *card, uint32_t *batch, uint
     time_whole(row, card, batch, parts);
     snprintf(row, sizeof row, "%s, wide", name);
     time_whole(row, card, batch, wide_parts);
+    snprintf(row, sizeof row, "%s, one wide", name);
+    time_whole(row, card, batch, wide_with_empty_parts);
 }
 
 static void time_many_terms(uint32_t *card, uint32_t *batch) {
@@ -292,6 +318,7 @@ static void time_many_terms(uint32_t *card, uint32_t *batch) {
     spread = 64;
     fill_entries(card, BLOCKS, spread, far_apart);
     time_part("64 positions, far apart", card, batch, between_parts);
+    time_part("64 positions, far apart, from above to", card, batch, empty_parts);
 }
 
 int main(void) {
@@ -308,6 +335,8 @@ int main(void) {
     time_made("a wide removal, additions beyond the pairs", card, batch, wide_with_additions);
     time_made("a wide removal, additions among the pairs", card, batch, additions_among_pairs);
     time_made("additions and wide removals in turn", card, batch, in_turn);
+    time_made("removals with no game in them", card, batch, empty_ranges);
+    time_made("a wide removal, such ranges behind it", card, batch, wide_with_empty_ranges);
     time_made("removals, a term each", card, batch, a_term_each);
     time_made("removals of a lower term, then of the term", card, batch, of_a_lower_term);
     fill_two_terms(card);

@@ -74,6 +74,21 @@ left $'1 4294967295\n4294967295 4294967295' 'all below it' last.card 1 429496729
 left '' 'from the lowest to the highest' last.card 1 4294967295
 left "$(pairs wide.card | awk '$2 < 10 || $2 > 20')" '704 of 4,096 pairs' wide.card 10 20
 
+# ranges with no game in them: the pass is that of an empty batch, and the range is told
+none_removed() { # LINE WHAT: what is shown of removals with from above to, no line where there are none
+    check "$2: what removes nothing is told" [ "$(grep 'from above to' out)" = "$1" ]
+}
+cp rounds.card same.card
+run 0 'an empty batch' apply same.card none.batch
+for range in '2 1' '5 4' '9 4' '12 11' '4294967295 1' '4294967295 4294967294'; do
+    # shellcheck disable=SC2086
+    left "$every" "from above to, $range" rounds.card $range
+    none_removed 'both.card: 1 removal with from above to, which removes nothing' "from above to, $range"
+    check "from above to, $range: the card of an empty batch" cmp -s both.card same.card
+done
+left "$(grep -v ' 7$' <<<"$every")" 'from is to' rounds.card 7 7
+none_removed '' 'from is to'
+
 # records of kind 3 beside others, in a batch: additions win, and what they remove adds up
 mixed() { # PAIRS WHAT WORDS..: what the batch leaves of the rounds
     cp rounds.card both.card
@@ -87,14 +102,21 @@ mixed $'3 1\n3 9\n7 3\n8 4\n8 12' 'a term removed beside it' 3 0 5 8 2 5 1 99
 mixed $'3 9\n5 10\n8 12' 'two rounds' 3 0 1 4 3 0 5 8
 mixed $'3 1\n5 10\n8 12' 'rounds that overlap' 3 0 2 6 3 0 3 5 3 0 3 9
 mixed $'3 5\n8 8' 'all but what is added' 3 0 1 4294967295 1 3 5 5 1 8 8 8
+none_removed '' 'all but what is added'
+mixed $'3 9\n5 10\n8 12' 'rounds with no game in them beside others' 3 0 1 4 3 0 2 1 3 0 4 3 3 0 5 8 3 0 12 1
+none_removed 'both.card: 3 removals with from above to, which remove nothing' 'rounds with no game in them'
+mixed $'3 1\n3 5\n3 9\n5 10\n7 3\n7 7\n7 9\n8 4\n8 8\n8 12' 'removals with no game in them beside others' \
+    2 3 9 1 2 5 1 6 2 5 2 1 2 5 10 6 1 7 9 9 2 7 9 7 2 8 4294967295 1
+none_removed 'both.card: 5 removals with from above to, which remove nothing' 'removals with no game in them'
 
 # ---- refusals
 
 annulled 1 'from 0' case1.card 0 9
 check 'it names number 6' grep -q '^both.card: refused, number 6: the batch' out
 annulled 1 'to 0' case1.card 9 0
+check 'it names number 6' grep -q '^both.card: refused, number 6: the batch' out
+none_removed '' 'to 0'
 annulled 1 'from and to 0' case1.card 0 0
-annulled 1 'from above to' case1.card 9 4
 check 'it names number 6' grep -q '^both.card: refused, number 6: the batch' out
 check 'the card stands' cmp -s both.card case1.card
 batch bad.batch 3 5 4 9
@@ -182,7 +204,11 @@ unsound_open() { # WHAT FROM TO: a range that no batch can have
     check "$1: the card stands" cmp -s both.card open.card
 }
 unsound_open 'resumed from 0' 0 8
-unsound_open 'resumed from above to' 8 5
+unsound_open 'resumed to 0' 8 0
+as_batch 0 'a range with no game in it mixed into it' open.card 8 5
+form_of 0 'resumed from above to' 'annul --resume' open.card 8 5
+check 'beyond the boundary nothing goes' [ "$(pairs both.card)" = $'3 1\n3 9\n5 2\n5 10\n7 3\n7 7\n8 4\n8 8\n8 12' ]
+none_removed 'both.card: 1 removal with from above to, which removes nothing' 'resumed from above to'
 
 # a block or a map entry alone opens no pass
 for write in 1 2; do
@@ -257,7 +283,7 @@ check 'the bytes stand' [ "$(cat odd.card)" = abc ]
 
 check 'help on the command' grep -qx '  annul   CARD FROM TO          remove a range of running numbers under every term' usage
 check 'help on its other form' grep -qx '  annul   --resume CARD FROM TO go on with such an annulment that was cut short' usage
-check 'help on its records' grep -qx 'removes from from to to under every term' <(grep -A 1 'kind 3, with term 0,$' usage)
+check 'help on its records' grep -qx 'removes from from to to under every term; a removal with from above to removes nothing' <(grep -A 1 'kind 3, with term 0,$' usage)
 check 'help on its refusal' grep -q '^exit status: 0 done, 1 refused (the number is shown, or that a pass is open), 2 ' usage
 cp case1.card ./--resume # an option is no card, whatever files there are
 misused 'no card and no range' annul
@@ -359,8 +385,8 @@ KILL_WRITE=3 KILL_WHEN=synced run_cut 137 'an annulment is cut short' annul open
 cp open.card opened.card
 streams 0 2 kept.card annul stream.card 4 9
 streams 0 2 kept.card annul --resume stream.card 4 9
-streams 1 2 kept.card annul stream.card 9 4
-streams 1 2 kept.card annul --resume stream.card 9 4
+streams 1 2 kept.card annul stream.card 9 0
+streams 1 2 kept.card annul --resume stream.card 9 0
 streams 1 2 live.card annul stream.card 4 9
 streams 1 2 opened.card annul stream.card 5 8
 streams 0 2 opened.card annul --resume stream.card 5 8

@@ -41,6 +41,10 @@ alike 0 'an empty file, on a card with pairs' case1.card none
 both mixed <<<$'R 8 2 2\nA 7 9\nA 8 9\nR 5 1 5\nA 1 1\nR 9 1 7\nA 8 2\nA 8 2\nR 7 4 4'
 alike 0 'additions and removals' case1.card mixed
 check 'their pairs' [ "$(pairs both.card)" = $'1 1\n5 9\n7 9\n8 2\n8 9' ]
+both empty <<<$'A 6 1\nR 5 9 8\nA 4 1\nR 7 4294967295 1\nR 5 2 1'
+alike 0 'removals with no game in them' case1.card empty
+check 'their pairs' [ "$(pairs both.card)" = $'4 1\n5 2\n5 9\n6 1\n7 4' ]
+check 'they are told' grep -qx 'both.card: 3 removals with from above to, which remove nothing' out
 both highest <<<$'A 4294967295 4294967295\nA 1 4294967295\nA 4294967295 1\nR 4294967295 2 4294967295'
 alike 0 'the highest figures' case1.card highest
 run 0 'format a card for many lines' format wide.card 256 40
@@ -150,8 +154,8 @@ both wrong <<<$'A 5 0\nA 5 2'
 not_applied 6 'a position 0' case1.card wrong
 both wrong <<<'R 5 0 9'
 not_applied 6 'a removal from 0' case1.card wrong
-both wrong <<<$'A 6 1\nR 5 9 8\nA 4 1'
-not_applied 6 'from above to' case1.card wrong
+both wrong <<<$'A 6 1\nR 5 9 0\nA 4 1'
+not_applied 6 'a removal to 0' case1.card wrong
 not_applied 4 'a card that is not sound' live.card three
 not_applied 1 'an empty card' empty.card three
 run 0 'format a card of two places' format full.card 8 2

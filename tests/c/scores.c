@@ -99,6 +99,8 @@ static void records(void) {
     given_both(TEXT("A\t0\t0\n"), BATCH(1, 0, 0, 0), "0 alone is a figure");
     given_both(TEXT("R\t0\t0\t0\n"), BATCH(2, 0, 0, 0), "0 alone in a removal");
     given_both(TEXT("R\t5\t9\t2\n"), BATCH(2, 5, 9, 2), "from above to");
+    given_both(TEXT("R\t5\t4294967295\t1\n"), BATCH(2, 5, UINT32_MAX, 1), "from the highest to the lowest");
+    given_both(TEXT("R\t5\t9\t0\n"), BATCH(2, 5, 9, 0), "to 0");
     given_both(TEXT("A\t10\t100\n"), BATCH(1, 10, 100, 100), "zeros that do not lead");
     given_both(TEXT("A\t1234567890\t987654321\n"), BATCH(1, 1234567890, 987654321, 987654321), "every digit");
     given_both(TEXT("A\t4294967295\t4294967294\n"), BATCH(1, UINT32_MAX, 4294967294, 4294967294), "highest addition");
@@ -116,20 +118,38 @@ static void order(void) {
     given_both(TEXT("R\t5\t2\t9\nA\t5\t2\n"), BATCH(2, 5, 2, 9, 1, 5, 2, 2), "equal in both, removed first");
     given_both(TEXT("R\t5\t2\t9\nR\t5\t2\t4\nR\t5\t2\t6\n"), BATCH(2, 5, 2, 9, 2, 5, 2, 4, 2, 5, 2, 6),
                "equal in both, whatever to is");
+    given_both(TEXT("R\t5\t9\t3\nA\t5\t4\n"), BATCH(1, 5, 4, 4, 2, 5, 9, 3), "by from, not by a lower to");
+    given_both(TEXT("R\t5\t9\t3\nR\t5\t8\t20\n"), BATCH(2, 5, 8, 20, 2, 5, 9, 3), "by from, not by a higher to");
+    given_both(TEXT("R\t5\t9\t3\nA\t5\t9\n"), BATCH(2, 5, 9, 3, 1, 5, 9, 9), "equal in both, from above to");
     given_both(TEXT("A\t5\t2\nA\t5\t2\n"), BATCH(1, 5, 2, 2, 1, 5, 2, 2), "one line twice");
     given_both(TEXT("R\t7\t4\t9\nA\t5\t9\nA\t7\t4\nR\t5\t2\t3\nA\t7\t4\nR\t7\t4\t5\nA\t5\t2\n"),
                BATCH(2, 5, 2, 3, 1, 5, 2, 2, 1, 5, 9, 9, 2, 7, 4, 9, 1, 7, 4, 4, 1, 7, 4, 4, 2, 7, 4, 5),
                "seven lines, of which some are equal in both");
 }
 
-/* A batch of a file goes to the step, which judges it. */
+/* A batch of a file goes to the step, which judges it. On a fresh card a pass that
+ * adds nothing is finished by it. */
 static void to_the_step(void) {
     static const struct {
         const char *text;
         uint32_t number;
-    } files[] = {{"", 0},           {"A\t5\t2\n", 0},   {"R\t5\t2\t9", 0}, {"A\t7\t4\nA\t5\t2\n", 0},
-                 {"A\t0\t2\n", 6},  {"A\t5\t0\n", 6},   {"R\t0\t1\t1", 6}, {"R\t5\t0\t1\n", 6},
-                 {"R\t5\t1\t0", 6}, {"R\t5\t3\t2\n", 6}};
+        uint32_t finished;
+    } files[] = {{"", 0, 1},
+                 {"A\t5\t2\n", 0, 0},
+                 {"R\t5\t2\t9", 0, 1},
+                 {"A\t7\t4\nA\t5\t2\n", 0, 0},
+                 {"R\t5\t3\t2\n", 0, 1},
+                 {"R\t5\t9\t3", 0, 1},
+                 {"R\t5\t4294967295\t1\n", 0, 1},
+                 {"R\t5\t9\t3\nA\t5\t4\n", 0, 0},
+                 {"R\t5\t9\t3\nR\t5\t8\t20", 0, 1},
+                 {"A\t0\t2\n", 6, 0},
+                 {"A\t5\t0\n", 6, 0},
+                 {"R\t0\t1\t1", 6, 0},
+                 {"R\t0\t9\t3\n", 6, 0},
+                 {"R\t5\t0\t1\n", 6, 0},
+                 {"R\t5\t1\t0", 6, 0},
+                 {"R\t5\t9\t0\n", 6, 0}};
     for (size_t i = 0; i < sizeof files / sizeof files[0]; i++) {
         struct card card = CARD(1, 8, 4, 0, 0, 0, 0, 0);
         uint32_t batch[2 * GI_RECORD_WORDS], write, freed, finished;
@@ -140,6 +160,7 @@ static void to_the_step(void) {
         check(line == 0, "to the step", files[i].text);
         number = gi_step(card.words, WORDS, batch, words, &write, &freed, &finished);
         check_number(number, files[i].number, "to the step", files[i].text);
+        check_number(finished, files[i].finished, "to the step", files[i].text);
     }
 }
 

@@ -1,6 +1,6 @@
-/* Tests of gi_step: the small cases with every figure, annulled rounds, passes
- * around the circle, the batch's limits, and the refusals. And of gi_write_span,
- * after each step. */
+/* Tests of gi_step: the small cases with every figure, annulled rounds, ranges
+ * with no position in them, passes around the circle, the batch's limits, and the
+ * refusals. And of gi_write_span, after each step. */
 #include "small_cards.h"
 
 /* What a step answers. */
@@ -348,6 +348,67 @@ static void annulled_largest(void) {
     free(card);
 }
 
+/* ---- ranges with no position in them: from is above to, and nothing goes */
+
+static void empty_ranges(void) {
+    const char *group = "empty range";
+    struct card fresh = CARD(1, 8, 4, 0, 0, 0, 0, 0);
+    const uint32_t *next = WORDS_8(1, 8, 4, 1, 1, 0, 0, 0);
+    step_to(fresh, BATCH(REMOVE(5, 9, 3)), (struct answer){0, 3, 0, 1}, fresh, group, "no pairs");
+    step_to(fresh, BATCH(ANNUL(9, 3)), (struct answer){0, 3, 0, 1}, fresh, group, "no pairs, under every term");
+    lands(case1(), BATCH(REMOVE(5, 9, 2)), 1, BLOCK_1, next, 1, 1, "empty range: from the last position to the first");
+    lands(case1(), BATCH(REMOVE(5, 3, 2)), 1, BLOCK_1, next, 1, 1, "empty range: from just above to");
+    lands(case1(), BATCH(REMOVE(7, 5, 4)), 1, BLOCK_1, next, 1, 1, "empty range: of the last term");
+    lands(case1(), BATCH(REMOVE(5, UINT32_MAX, 1)), 1, BLOCK_1, next, 1, 1, "empty range: the widest");
+    lands(case1(), BATCH(REMOVE(1, 2, 1)), 1, BLOCK_1, next, 1, 1, "empty range: the lowest");
+    lands(case1(), BATCH(REMOVE(UINT32_MAX, UINT32_MAX, 1)), 1, BLOCK_1, next, 1, 1,
+          "empty range: of the highest term");
+    lands(case1(), BATCH(ANNUL(9, 2)), 1, BLOCK_1, next, 1, 1, "empty range: under every term");
+    lands(case1(), BATCH(ANNUL(5, 4)), 1, BLOCK_1, next, 1, 1, "empty range: under every term, from just above to");
+    lands(case1(), BATCH(ANNUL(UINT32_MAX, 1)), 1, BLOCK_1, next, 1, 1, "empty range: the widest under every term");
+    lands(case1(), BATCH(ANNUL(4, 2), ANNUL(9, 8), REMOVE(5, 2, 1), REMOVE(5, 9, 2), REMOVE(7, 4, 3)), 1, BLOCK_1, next,
+          1, 1, "empty range: several of both kinds");
+
+    lands(case1(), BATCH(ANNUL(9, 2), REMOVE(7, 5, 4), ADD(7, 11), REMOVE(7, 11, 4)), 1,
+          WORDS_8(5, 2, 2, 9, 7, 2, 4, 11), next, 1, 1, "empty range: beside an addition, with its from");
+    lands(case1(), BATCH(REMOVE(5, 2, 1), REMOVE(5, 2, 9), REMOVE(5, 9, 2), ADD(5, 9)), 1,
+          WORDS_8(5, 1, 9, 7, 1, 4, 0, 0), next, 1, 1, "empty range: starting and ending with a removal");
+    lands(case1(), BATCH(REMOVE(5, 1, 20), REMOVE(5, 8, 3)), 1, WORDS_8(7, 1, 4, 0, 0, 0, 0, 0), next, 1, 1,
+          "empty range: inside a removal");
+    lands(case1(), BATCH(REMOVE(5, 8, 20), REMOVE(5, 9, 2)), 1, WORDS_8(5, 1, 2, 7, 1, 4, 0, 0), next, 1, 1,
+          "empty range: to below a removal");
+    lands(case1(), BATCH(ANNUL(2, 4), ANNUL(3, 2), ANNUL(9, 3)), 1, WORDS_8(5, 1, 9, 0, 0, 0, 0, 0), next, 1, 1,
+          "empty range: inside and behind an annulled one");
+    lands(case1(), BATCH(ANNUL(3, 2), ANNUL(3, 8)), 1, WORDS_8(5, 2, 2, 9, 0, 0, 0, 0), next, 1, 1,
+          "empty range: starting with an annulled one");
+    step_to(case1(), BATCH(ANNUL(4, 2), REMOVE(5, 1, UINT32_MAX), REMOVE(5, 9, 2), REMOVE(7, 4, 4)),
+            (struct answer){0, 3, 1, 1}, configured(case1(), WORDS_8(1, 8, 4, 1, 0, 0, 0, 0)), group,
+            "beside what takes all");
+
+    /* Two blocks: the boundary, (7,4), stands inside the range that has no position. */
+    struct card card = lands(case1(), BATCH(ANNUL(UINT32_MAX, 1), REMOVE(7, 9, 1), ADD(8, 1)), 1, BLOCK_1,
+                             WORDS_8(1, 8, 4, 1, 0, 1, 7, 4), 1, 0, "empty range: two blocks");
+    lands(card, BATCH(ANNUL(UINT32_MAX, 1), REMOVE(7, 9, 1), ADD(8, 1)), 2, WORDS_8(8, 1, 1, 0, 0, 0, 0, 0),
+          WORDS_8(1, 8, 4, 1, 2, 0, 0, 0), 0, 1, "empty range: the second block");
+    step_to(case3_open(), BATCH(ANNUL(9, 1), REMOVE(7, 4, 1)), (struct answer){0, 3, 0, 1},
+            configured(case3_open(), next), group, "in mid-pass, nothing remains");
+    lands(wrapped(), BATCH(ANNUL(9, 1), REMOVE(2, 5, 1), REMOVE(3, 2, 1)), 2, WORDS_8(2, 1, 5, 3, 1, 1, 0, 0),
+          WORDS_8(1, 8, 4, 0, 1, 2, 3, 1), 1, 0, "empty range: around the circle");
+
+    static uint32_t many[(GI_BATCH_RECORDS_MAX + 1) * GI_RECORD_WORDS];
+    size_t most = GI_BATCH_RECORDS_MAX * GI_RECORD_WORDS;
+    for (uint32_t i = 0; i <= GI_BATCH_RECORDS_MAX; i++)
+        memcpy(many + i * GI_RECORD_WORDS, (const uint32_t[]){REMOVE(5, i + 2, 1)}, GI_RECORD_WORDS * sizeof(uint32_t));
+    lands(case1(), many, most, 1, BLOCK_1, next, 1, 1, "empty range: 4,096 of them");
+    step_refused(case1(), many, most + GI_RECORD_WORDS, 6, group, "4,097 of them");
+    for (uint32_t i = 0; i <= GI_BATCH_RECORDS_MAX; i++)
+        memcpy(many + i * GI_RECORD_WORDS, (const uint32_t[]){ANNUL(i + 2, i + 1)}, GI_RECORD_WORDS * sizeof(uint32_t));
+    lands(case1(), many, most, 1, BLOCK_1, next, 1, 1, "empty range: 4,096 of them under every term");
+    step_refused(case1(), many, most + GI_RECORD_WORDS, 6, group, "4,097 of them under every term");
+    memcpy(many + most - GI_RECORD_WORDS, (const uint32_t[]){REMOVE(5, 9, 9)}, GI_RECORD_WORDS * sizeof(uint32_t));
+    lands(case1(), many, most, 1, WORDS_8(5, 1, 2, 7, 1, 4, 0, 0), next, 1, 1, "empty range: 4,095 before a removal");
+}
+
 static void circle(void) {
     struct card card = lands(wrapped(), NO_RECORDS, 2, WORDS_8(2, 1, 5, 3, 1, 1, 0, 0), WORDS_8(1, 8, 4, 0, 1, 2, 3, 1),
                              1, 0, "around the circle");
@@ -420,10 +481,9 @@ static void wrong_records(void) {
     step_refused(case1(), BATCH(REMOVE(5, 0, 3)), 6, group, "a removal from 0");
     step_refused(case1(), BATCH(REMOVE(5, 0, 0)), 6, group, "a removal from 0 to 0");
     step_refused(case1(), BATCH(REMOVE(5, 3, 0)), 6, group, "a removal to 0");
-    step_refused(case1(), BATCH(REMOVE(5, 3, 2)), 6, group, "a removal with from above to");
     step_refused(case1(), BATCH(GI_RECORD_ADD, 5, 3, 2), 6, group, "an addition with from above to");
     step_refused(case1(), BATCH(GI_RECORD_ADD, 5, 3, 4), 6, group, "an addition with from below to");
-    step_refused(case1(), BATCH(ADD(5, 3), ADD(6, 3), REMOVE(7, 3, 2)), 6, group, "only the last record is wrong");
+    step_refused(case1(), BATCH(ADD(5, 3), ADD(6, 3), REMOVE(7, 3, 0)), 6, group, "only the last record is wrong");
     step_refused(case1(), BATCH(ADD(6, 3), ADD(5, 3), ADD(7, 0)), 6, group, "6 before 7");
 
     static uint32_t many[(GI_BATCH_RECORDS_MAX + 1) * GI_RECORD_WORDS];
@@ -452,12 +512,11 @@ static void wrong_annulments(void) {
     step_refused(case1(), BATCH(ANNUL(0, 9)), 6, group, "from 0");
     step_refused(case1(), BATCH(ANNUL(9, 0)), 6, group, "to 0");
     step_refused(case1(), BATCH(ANNUL(0, 0)), 6, group, "from 0 to 0");
-    step_refused(case1(), BATCH(ANNUL(9, 8)), 6, group, "from above to");
-    step_refused(case1(), BATCH(ANNUL(UINT32_MAX, 1)), 6, group, "from the highest to the lowest");
-    step_refused(case1(), BATCH(ANNUL(1, 9), ANNUL(2, 1), ADD(5, 3)), 6, group, "one in the middle");
-    step_refused(case1(), BATCH(ADD(5, 3), ANNUL(2, 1)), 6, group, "6 before 7");
+    step_refused(case1(), BATCH(ANNUL(UINT32_MAX, 0)), 6, group, "from the highest to 0");
+    step_refused(case1(), BATCH(ANNUL(1, 9), ANNUL(2, 0), ADD(5, 3)), 6, group, "one in the middle");
+    step_refused(case1(), BATCH(ADD(5, 3), ANNUL(2, 0)), 6, group, "6 before 7");
     step_refused(case1(), BATCH(ANNUL(3, 9), ANNUL(2, 9), GI_RECORD_ANNUL, 5, 2, 9), 6, group, "6 before 7");
-    step_refused(full(), BATCH(ANNUL(8, 7), ADD(1, 15)), 6, group, "6 before 8");
+    step_refused(full(), BATCH(ANNUL(8, 0), ADD(1, 15)), 6, group, "6 before 8");
 
     group = "number 7, annulled";
     step_refused(case1(), BATCH(ADD(5, 3), ANNUL(1, 9)), 7, group, "behind a term");
@@ -467,6 +526,41 @@ static void wrong_annulments(void) {
     step_refused(case1(), BATCH(ANNUL(3, 9), ANNUL(2, 9)), 7, group, "starts that fall");
     step_refused(case1(), BATCH(ANNUL(3, 9), ANNUL(2, 9), ADD(5, 3)), 7, group, "starts that fall, then a term");
     step_refused(full(), BATCH(ADD(1, 15), ANNUL(1, 1)), 7, group, "7 before 8");
+}
+
+static void wrong_empty_ranges(void) {
+    const char *group = "number 6, from above to";
+    step_refused(case1(), BATCH(GI_RECORD_ADD, 5, 9, 8), 6, group, "an addition, by one");
+    step_refused(case1(), BATCH(GI_RECORD_ADD, 5, UINT32_MAX, 1), 6, group, "an addition, by much");
+    step_refused(case1(), BATCH(REMOVE(5, 9, 3), GI_RECORD_ADD, 5, 9, 3), 6, group, "an addition behind a removal");
+    step_refused(case1(), BATCH(REMOVE(5, 9, 0)), 6, group, "a removal to 0");
+    step_refused(case1(), BATCH(REMOVE(5, 1, 0)), 6, group, "a removal from 1 to 0");
+    step_refused(case1(), BATCH(REMOVE(5, UINT32_MAX, 0)), 6, group, "a removal from the highest to 0");
+    step_refused(case1(), BATCH(ANNUL(1, 0)), 6, group, "from 1 to 0 under every term");
+    step_refused(case1(), BATCH(ANNUL(9, 3), ANNUL(9, 0)), 6, group, "to 0 under every term, the second");
+    step_refused(case1(), BATCH(REMOVE(0, 9, 3)), 6, group, "a removal with term 0");
+    step_refused(case1(), BATCH(GI_RECORD_ANNUL, 5, 9, 3), 6, group, "kind 3 with a term");
+    step_refused(case1(), BATCH(0, 5, 9, 3), 6, group, "kind 0");
+    step_refused(case1(), BATCH(4, 5, 9, 3), 6, group, "kind 4");
+    step_refused(case1(), BATCH(REMOVE(5, 9, 3), REMOVE(5, 8, 0)), 6, group, "6 before 7");
+    step_refused(full(), BATCH(REMOVE(1, 9, 0), ADD(1, 15)), 6, group, "6 before 8");
+
+    group = "number 7, from above to";
+    step_refused(case1(), BATCH(REMOVE(5, 9, 3), REMOVE(5, 8, 20)), 7, group, "by from");
+    step_refused(case1(), BATCH(REMOVE(5, 9, 3), REMOVE(5, 4, 4)), 7, group, "by from, though to rises");
+    step_refused(case1(), BATCH(REMOVE(5, 9, 3), ADD(5, 8)), 7, group, "an addition behind it");
+    step_refused(case1(), BATCH(ADD(5, 9), REMOVE(5, 8, 3)), 7, group, "an addition before it");
+    step_refused(case1(), BATCH(REMOVE(5, 9, 3), REMOVE(4, 20, 10)), 7, group, "by term");
+    step_refused(case1(), BATCH(ANNUL(9, 3), ANNUL(8, 20)), 7, group, "by from, under every term");
+    step_refused(case1(), BATCH(ADD(5, 3), ANNUL(2, 1)), 7, group, "under every term behind a term");
+    lands(case1(), BATCH(REMOVE(5, 8, 20), REMOVE(5, 9, 3)), 1, WORDS_8(5, 1, 2, 7, 1, 4, 0, 0),
+          WORDS_8(1, 8, 4, 1, 1, 0, 0, 0), 1, 1, "in order by from, though to falls");
+
+    group = "number 8, from above to";
+    step_refused(full(), BATCH(ANNUL(8, 7), ADD(1, 15)), 8, group, "beside an addition");
+    step_refused(full(), BATCH(REMOVE(1, 60, 60), REMOVE(1, 60, 10)), 8, group, "beside a removal");
+    lands(full(), BATCH(ANNUL(60, 10), REMOVE(1, 60, 59)), 1, WORDS_8(1, 6, 10, 20, 30, 40, 50, 60),
+          WORDS_8(1, 8, 4, 3, 2, 1, 1, 60), 1, 0, "alone on a full card");
 }
 
 static void wrong_order(void) {
@@ -511,7 +605,8 @@ static void wrong_cards(void) {
     step_refused(changed(card, GI_CONFIG_PLACES, 1), BATCH(0, 0, 0), 3, group, "number 3");
     step_refused(changed(card, GI_CONFIG_OLD_LENGTH, 4), BATCH(ADD(7, 1), ADD(5, 1)), 3, group, "number 3");
     step_refused(changed(card, map_word(0, 1), 3), BATCH(0, 0, 0), 4, group, "number 4");
-    step_refused(changed(card, map_word(0, 1), 3), BATCH(ANNUL(2, 1)), 4, group, "number 4 before 6");
+    step_refused(changed(card, map_word(0, 1), 3), BATCH(ANNUL(2, 0)), 4, group, "number 4 before 6");
+    step_refused(changed(card, map_word(0, 1), 3), BATCH(ANNUL(2, 1)), 4, group, "number 4, an empty range");
     step_refused(changed(card, map_word(0, 1), 3), BATCH_1, 4, group, "number 4, a good batch");
 }
 
@@ -543,11 +638,13 @@ void test_step(void) {
     batches();
     annulled_round();
     annulled();
+    empty_ranges();
     circle();
     largest();
     annulled_largest();
     wrong_records();
     wrong_annulments();
+    wrong_empty_ranges();
     wrong_order();
     full_cards();
     wrong_cards();

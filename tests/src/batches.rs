@@ -2,7 +2,7 @@
 
 use crate::cards;
 use crate::random::Random;
-use crate::second::batch::{Record, ADD, ANNUL, MOST_RECORDS, REMOVE};
+use crate::second::batch::{self, Record, ADD, ANNUL, MOST_RECORDS, REMOVE};
 use crate::second::{judge_batch, Configuration, Pair, HIGHEST, LOWEST};
 
 const TOP: u32 = u32::MAX;
@@ -58,6 +58,12 @@ impl Universe {
         (one.min(other), one.max(other))
     }
 
+    /// The range of a removal, now and then an empty one.
+    pub fn removed_range(&self, random: &mut Random) -> (u32, u32) {
+        let range = self.range(random);
+        or_empty(random, range)
+    }
+
     /// The batch that removes every pair of the universe.
     pub fn remove_all(&self) -> Vec<u32> {
         let record = |&term: &u32| Record {
@@ -67,6 +73,15 @@ impl Universe {
             to: u32::MAX,
         };
         words(self.terms.iter().map(record).collect())
+    }
+}
+
+/// A range that rises, or now and then one with no position in it, from one of its ends down.
+pub fn or_empty(random: &mut Random, (from, to): (u32, u32)) -> (u32, u32) {
+    match random.below(12) {
+        0 => (to, from),
+        1 if from > 1 => (from, from - 1),
+        _ => (from, to),
     }
 }
 
@@ -131,9 +146,21 @@ pub fn annulment(from: u32, to: u32) -> Record {
     }
 }
 
-/// Whether a batch that is judged 0 removes under every term.
+/// Whether a batch that is judged 0 has a record that removes under every term.
 pub fn annuls(batch: &[u32]) -> bool {
     batch.first() == Some(&ANNUL)
+}
+
+/// Whether a batch that is judged 0 has a range with no position in it.
+pub fn has_empty_range(batch: &[u32]) -> bool {
+    batch::records(batch).iter().any(Record::is_empty_range)
+}
+
+/// The batch with every range that has no position in it taken out.
+pub fn without_empty_ranges(batch: &[u32]) -> Vec<u32> {
+    let mut records = batch::records(batch);
+    records.retain(|record| !record.is_empty_range());
+    words(records)
 }
 
 /// The records as words, put in order; of equal ones the earlier stays first.
@@ -150,11 +177,11 @@ pub fn good(random: &mut Random, universe: &Universe, mixture: Mixture, most: us
     for at in 0..count {
         if at < annulments {
             let (from, to) = if random.chance(1, 2) {
-                universe.range(random)
+                universe.removed_range(random)
             } else {
                 let position = universe.position(random);
                 let beside = beside(random, position);
-                (position.min(beside), position)
+                or_empty(random, (position.min(beside), position))
             };
             records.push(annulment(from, to));
             continue;
@@ -168,7 +195,7 @@ pub fn good(random: &mut Random, universe: &Universe, mixture: Mixture, most: us
         if adds {
             records.push(addition(term, universe.position(random)));
         } else {
-            let (from, to) = universe.range(random);
+            let (from, to) = universe.removed_range(random);
             records.push(removal(term, from, to));
         }
     }
@@ -204,12 +231,13 @@ pub fn near(random: &mut Random, card: &[u32], mixture: Mixture, most: usize) ->
             2 => u32::MAX,
             _ => random.pick(&known).1.max(from),
         };
+        let (removed_from, removed_to) = or_empty(random, (from, to));
         if at < annulments {
-            records.push(annulment(from, to));
+            records.push(annulment(removed_from, removed_to));
         } else if adds {
             records.push(addition(term, from));
         } else {
-            records.push(removal(term, from, to));
+            records.push(removal(term, removed_from, removed_to));
         }
     }
     let batch = words(records);
@@ -261,10 +289,13 @@ pub enum Stretches {
     Between,
     /// From the lowest position on, and up to the highest.
     AtTheEnds,
+    /// From any position down to a lower one, so that none is in it, but for one wide one now and
+    /// then.
+    Empty,
 }
 
 impl Stretches {
-    pub const EVERY: [Stretches; 10] = [
+    pub const EVERY: [Stretches; 11] = [
         Stretches::Narrow,
         Stretches::Wide,
         Stretches::Overlapping,
@@ -275,9 +306,11 @@ impl Stretches {
         Stretches::Adjacent,
         Stretches::Between,
         Stretches::AtTheEnds,
+        Stretches::Empty,
     ];
 
-    /// So many records, in order, at rising positions, of which there are at least two.
+    /// So many records, in order, at rising positions, of which there are at least two. Of the other
+    /// shapes too a few records have no position in them.
     pub fn records(self, random: &mut Random, positions: &[u32], count: usize) -> Vec<Record> {
         let last = positions.len() - 1;
         let mut stretches: Vec<(u32, u32)> = Vec::new();
@@ -326,12 +359,21 @@ impl Stretches {
                     3 => (random.pick(&positions[last - last / 4..]), u32::MAX),
                     _ => (from, from),
                 },
+                Stretches::Empty => drawn_stretch(random, positions),
             });
         }
-        let mut records: Vec<Record> = stretches
-            .into_iter()
-            .map(|(one, other)| annulment(one.min(other), one.max(other)))
-            .collect();
+        let wide = self == Stretches::Empty && random.chance(1, 2);
+        let mut records = Vec::new();
+        for (at, (one, other)) in stretches.into_iter().enumerate() {
+            let (low, high) = (one.min(other), one.max(other));
+            let (from, to) = match self {
+                Stretches::Empty if wide && at == count / 2 => (low, high),
+                Stretches::Empty if low == high => (high.max(2), high.max(2) - 1),
+                Stretches::Empty => (high, low),
+                _ => or_empty(random, (low, high)),
+            };
+            records.push(annulment(from, to));
+        }
         records.sort_by_key(|record| record.from);
         records
     }
@@ -357,9 +399,113 @@ fn drawn_stretch(random: &mut Random, positions: &[u32]) -> (u32, u32) {
     (random.pick(positions), random.pick(positions))
 }
 
+/// Ranges with no position in them, from far above to and from just above it, at both ends of all
+/// positions and between them.
+pub const EMPTY_RANGES: [(u32, u32); 9] = [
+    (2, 1),
+    (3, 1),
+    (4, 3),
+    (9, 3),
+    (9, 8),
+    (10, 2),
+    (TOP, 1),
+    (TOP, 5),
+    (TOP, TOP - 1),
+];
+
+/// Batches in order with such ranges, where the order by to, or by the lesser of from and to, would
+/// fall in many.
+pub const EMPTY_RANGES_IN_ORDER: [&[u32]; 24] = [
+    &[2, 5, 2, 1],
+    &[2, 5, 9, 3],
+    &[2, 1, TOP, 1],
+    &[2, TOP, TOP, TOP - 1],
+    &[3, 0, 2, 1],
+    &[3, 0, 9, 3],
+    &[3, 0, TOP, 1],
+    &[2, 5, 8, 20, 2, 5, 9, 3],
+    &[2, 5, 9, 20, 2, 5, 9, 3],
+    &[2, 5, 9, 3, 2, 5, 9, 20],
+    &[2, 5, 9, 3, 2, 5, 9, 8],
+    &[2, 5, 9, 8, 2, 5, 9, 3],
+    &[2, 5, 9, 3, 2, 5, 10, 2],
+    &[2, 5, 9, 3, 1, 5, 9, 9],
+    &[1, 5, 9, 9, 2, 5, 9, 3],
+    &[1, 5, 8, 8, 2, 5, 9, 3],
+    &[2, 5, 9, 3, 2, 6, 2, 1],
+    &[2, 5, 2, 9, 2, 5, 8, 4, 2, 5, 9, 1],
+    &[3, 0, 8, 20, 3, 0, 9, 3],
+    &[3, 0, 9, 3, 3, 0, 9, 20],
+    &[3, 0, 9, 3, 3, 0, 10, 2],
+    &[3, 0, TOP, 1, 2, 1, 2, 1],
+    &[3, 0, 9, 3, 1, 1, 1, 1, 2, 1, 2, 1],
+    &[3, 0, 9, 3, 3, 0, 12, 20, 2, 5, 9, 3, 1, 5, 12, 12],
+];
+
+/// Batches with from above to that are refused, each with its number, and beside them some of the
+/// same grounds with from below to.
+pub const WRONG_EMPTY_RANGES: [(&[u32], u32); 50] = [
+    // An addition has from equal to to.
+    (&[1, 5, 9, 8], 6),
+    (&[1, 5, 8, 9], 6),
+    (&[1, 5, 2, 1], 6),
+    (&[1, 5, TOP, 1], 6),
+    (&[1, 1, 1, TOP], 6),
+    (&[1, TOP, TOP, TOP - 1], 6),
+    (&[2, 5, 9, 3, 1, 5, 9, 3], 6),
+    (&[3, 0, 9, 3, 1, 5, 9, 3], 6),
+    // A zero in from or to.
+    (&[2, 5, 9, 0], 6),
+    (&[2, 5, 1, 0], 6),
+    (&[2, 5, 0, 9], 6),
+    (&[2, 5, 0, 0], 6),
+    (&[2, TOP, TOP, 0], 6),
+    (&[3, 0, 9, 0], 6),
+    (&[3, 0, 1, 0], 6),
+    (&[3, 0, 0, 9], 6),
+    (&[3, 0, TOP, 0], 6),
+    (&[2, 5, 9, 3, 2, 5, 9, 0], 6),
+    (&[3, 0, 9, 3, 3, 0, 9, 0], 6),
+    // Term 0 without kind 3, and kind 3 with a term.
+    (&[2, 0, 9, 3], 6),
+    (&[2, 0, TOP, 1], 6),
+    (&[1, 0, 9, 3], 6),
+    (&[3, 1, 2, 1], 6),
+    (&[3, 5, 9, 3], 6),
+    (&[3, TOP, TOP, 1], 6),
+    (&[3, 0, 9, 3, 2, 0, 9, 3], 6),
+    (&[3, 0, 9, 3, 3, 5, 9, 3], 6),
+    // Kinds that are none.
+    (&[0, 5, 9, 3], 6),
+    (&[0, 0, 9, 3], 6),
+    (&[4, 5, 9, 3], 6),
+    (&[4, 0, 9, 3], 6),
+    (&[1 << 16 | 2, 5, 9, 3], 6),
+    (&[TOP, 0, 9, 3], 6),
+    // The order falls by from, also where it rises by to.
+    (&[2, 5, 9, 3, 2, 5, 8, 20], 7),
+    (&[2, 5, 9, 3, 2, 5, 4, 4], 7),
+    (&[2, 5, 9, 8, 2, 5, 8, 7], 7),
+    (&[2, 5, 9, 3, 1, 5, 8, 8], 7),
+    (&[1, 5, 9, 9, 2, 5, 8, 3], 7),
+    (&[2, 5, TOP, 1, 2, 5, TOP - 1, TOP], 7),
+    (&[2, 5, 9, 3, 2, 4, 20, 10], 7),
+    (&[3, 0, 9, 3, 3, 0, 8, 20], 7),
+    (&[3, 0, 9, 3, 3, 0, 4, 4], 7),
+    (&[2, 5, 9, 3, 3, 0, 9, 3], 7),
+    (&[1, 1, 1, 1, 3, 0, 2, 1], 7),
+    // 6 before 7.
+    (&[2, 5, 9, 3, 2, 5, 8, 0], 6),
+    (&[2, 5, 9, 3, 1, 5, 8, 3], 6),
+    (&[3, 0, 9, 3, 3, 0, 8, 0], 6),
+    (&[1, 5, 9, 9, 3, 5, 9, 3], 6),
+    (&[1, 9, 9, 9, 2, 0, 9, 3], 6),
+    (&[2, 5, 0, 3, 2, 5, 9, 3, 2, 5, 8, 3], 6),
+];
+
 /// Batches with a record that removes under every term, or that would if it were not refused, each
 /// with its number.
-pub const WRONG_ANNULMENTS: [(&[u32], u32); 32] = [
+pub const WRONG_ANNULMENTS: [(&[u32], u32); 33] = [
     // Kind 3 with a term.
     (&[3, 1, 1, 9], 6),
     (&[3, 5, 2, 2], 6),
@@ -378,14 +524,14 @@ pub const WRONG_ANNULMENTS: [(&[u32], u32); 32] = [
     (&[4, 5, 1, 9], 6),
     (&[1 << 16 | 3, 0, 1, 9], 6),
     (&[TOP, 0, 1, 9], 6),
-    // A zero in from or to, from above to.
+    // A zero in from or to.
     (&[3, 0, 0, 9], 6),
     (&[3, 0, 9, 0], 6),
     (&[3, 0, 0, 0], 6),
-    (&[3, 0, 9, 8], 6),
-    (&[3, 0, TOP, 1], 6),
-    (&[3, 0, TOP, TOP - 1], 6),
-    (&[3, 0, 2, 9, 3, 0, 3, 2], 6),
+    (&[3, 0, 1, 0], 6),
+    (&[3, 0, TOP, 0], 6),
+    (&[3, 0, 0, TOP], 6),
+    (&[3, 0, 2, 9, 3, 0, 3, 0], 6),
     // The order falls.
     (&[1, 1, 1, 1, 3, 0, 1, 9], 7),
     (&[2, 1, 1, 9, 3, 0, 9, 9], 7),
@@ -393,12 +539,34 @@ pub const WRONG_ANNULMENTS: [(&[u32], u32); 32] = [
     (&[3, 0, 1, 9, 1, 5, 2, 2, 3, 0, 1, 9], 7),
     (&[3, 0, 5, 9, 3, 0, 4, 20], 7),
     (&[3, 0, 2, 2, 3, 0, 1, 1, 1, 5, 2, 2], 7),
+    (&[3, 0, 5, 9, 3, 0, 4, 3], 7),
     // 6 before 7.
     (&[1, 1, 1, 1, 3, 0, 0, 9], 6),
-    (&[3, 0, 5, 9, 3, 0, 4, 3], 6),
+    (&[3, 0, 5, 9, 3, 0, 4, 0], 6),
     (&[1, 5, 2, 2, 3, 4, 2, 2], 6),
     (&[1, 5, 2, 2, 3, 0, 1, 9, 2, 0, 1, 9], 6),
 ];
+
+/// A wrong batch alone, and between records that can stand before any other and behind any other;
+/// where `longest` says so, also first and last in batches as long as can be.
+pub fn around(random: &mut Random, wrong: &[u32], longest: bool) -> Vec<Vec<u32>> {
+    let front = annulment(1, random.pick(&[1, 2, 9, TOP])).words();
+    let behind = random
+        .pick(&[addition(TOP, TOP), removal(TOP, TOP, 1)])
+        .words();
+    let between = [
+        &front.repeat(1 + random.below(4)),
+        wrong,
+        &behind.repeat(random.below(4)),
+    ];
+    let mut batches = vec![wrong.to_vec(), between.concat()];
+    if longest {
+        let room = MOST_RECORDS - wrong.len() / 4;
+        batches.push([&front.repeat(room), wrong].concat());
+        batches.push([wrong, &behind.repeat(room)].concat());
+    }
+    batches
+}
 
 /// A batch that is judged 6 or 7.
 pub fn bad(random: &mut Random, universe: &Universe) -> Vec<u32> {
@@ -408,7 +576,7 @@ pub fn bad(random: &mut Random, universe: &Universe) -> Vec<u32> {
             continue;
         }
         let record = 4 * random.below(batch.len() / 4);
-        match random.below(12) {
+        match random.below(13) {
             0 => batch.truncate(batch.len() - 1 - random.below(3)),
             1 => batch[record] = random.pick(&[0, 3, 4, u32::MAX]),
             2 => batch[record + 1 + random.below(3)] = 0,
@@ -436,16 +604,20 @@ pub fn bad(random: &mut Random, universe: &Universe) -> Vec<u32> {
             }
             9 => {
                 // A stretch that cannot be, in front.
-                let (from, to) = random.pick(&[(0, 9), (9, 0), (0, 0), (9, 8), (TOP, 1)]);
+                let (from, to) = random.pick(&[(0, 9), (9, 0), (0, 0), (TOP, 0), (0, TOP)]);
                 batch.splice(0..0, annulment(from, to).words());
             }
             10 => {
                 // A removal under every term behind others.
-                let (from, to) = universe.range(random);
+                let (from, to) = universe.removed_range(random);
                 batch.splice(record + 4..record + 4, annulment(from, to).words());
             }
-            _ => {
+            11 => {
                 let (wrong, _) = random.pick(&WRONG_ANNULMENTS);
+                batch.splice(record..record, wrong.iter().copied());
+            }
+            _ => {
+                let (wrong, _) = random.pick(&WRONG_EMPTY_RANGES);
                 batch.splice(record..record, wrong.iter().copied());
             }
         }

@@ -287,6 +287,34 @@ pub fn random_words(random: &mut Random) -> Vec<u32> {
     card
 }
 
+/// The kinds of words that a cut may leave.
+pub const CUT_KINDS: usize = 8;
+
+/// What a cut may leave of the words being written.
+pub fn cut_words(
+    random: &mut Random,
+    kind: usize,
+    words: &mut [u32],
+    wanted: &[u32],
+    live: &[u32],
+) {
+    let torn = random.below(words.len() + 1);
+    match kind {
+        0 => {}
+        1 => random.fill(words),
+        2 => words[..torn].copy_from_slice(&wanted[..torn]),
+        3 => words[torn..].copy_from_slice(&wanted[torn..]),
+        4 => words.fill(0),
+        5 => words.fill(u32::MAX),
+        6 => words.copy_from_slice(&live[..words.len()]),
+        _ => {
+            words.copy_from_slice(wanted);
+            let word = random.below(words.len());
+            words[word] ^= 1 << random.below(32);
+        }
+    }
+}
+
 /// At most `count` blocks of pairs that rise after the cursor, which moves on to the last.
 pub fn segment(
     random: &mut Random,

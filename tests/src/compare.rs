@@ -143,6 +143,8 @@ pub struct Steps {
     pub on_full_cards: u64,
     pub annulling: u64,
     pub annulling_in_mid_pass: u64,
+    pub with_empty_ranges: u64,
+    pub empty_ranges_in_mid_pass: u64,
     pub passes: u64,
     pub passes_at_the_limit: u64,
 }
@@ -188,6 +190,8 @@ impl Steps {
             self.on_full_cards,
             self.annulling,
             self.annulling_in_mid_pass,
+            self.with_empty_ranges,
+            self.empty_ranges_in_mid_pass,
         ] {
             assert!(count >= least, "a shape came {count} times: {self:?}");
         }
@@ -208,6 +212,9 @@ impl Steps {
         let annuls = batches::annuls(batch);
         self.annulling += u64::from(annuls);
         self.annulling_in_mid_pass += u64::from(annuls && configuration.new_length > 0);
+        let empty = batches::has_empty_range(batch);
+        self.with_empty_ranges += u64::from(empty);
+        self.empty_ranges_in_mid_pass += u64::from(empty && configuration.new_length > 0);
         if answer.write == 3 {
             let on = !answer.finished;
             self.going_on += u64::from(on);
@@ -386,6 +393,17 @@ fn span(before: &[u32], after: &[u32], write: u32, message: &dyn Fn() -> String)
 /// Runs one batch until its pass finishes or a step is refused, each step compared; checks the step
 /// limit and, where the pass finished, that the batch was applied. Gives the last number.
 pub fn pass(steps: &mut Steps, card: &mut [u32], batch: &[u32], about: &dyn Fn() -> String) -> u32 {
+    pass_seen(steps, card, batch, about, &mut |_, _| ())
+}
+
+/// The same; each step's answer and the card it left are shown.
+pub fn pass_seen(
+    steps: &mut Steps,
+    card: &mut [u32],
+    batch: &[u32],
+    about: &dyn Fn() -> String,
+    seen: &mut dyn FnMut(&StepAnswer, &[u32]),
+) -> u32 {
     let limit = second::step_limit(second::blocks_filled(card, batch));
     let mut wanted = second::what_remains(card, batch);
     if let Some(boundary) = Configuration::read(card).boundary() {
@@ -395,6 +413,7 @@ pub fn pass(steps: &mut Steps, card: &mut [u32], batch: &[u32], about: &dyn Fn()
     for taken in 1.. {
         assert!(taken <= limit, "beyond the step limit; {}", about());
         let answer = step(steps, card, batch, about);
+        seen(&answer, card);
         if answer.number != 0 {
             return answer.number;
         }

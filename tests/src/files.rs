@@ -33,7 +33,7 @@ pub fn file(lines: &[Vec<u8>], last_feed: bool) -> Vec<u8> {
     bytes
 }
 
-/// Records in any order that lines can say, now and then with a zero or a range that falls.
+/// Records in any order that lines can say, now and then with a zero; from is often above to.
 pub fn any_records(random: &mut Random, universe: &Universe, count: usize) -> Vec<Record> {
     let figure = |random: &mut Random, figure: u32| {
         if random.chance(1, 30) {
@@ -78,6 +78,22 @@ pub fn good_lines(
     records.retain(|record| record.kind != ANNUL);
     random.shuffle(&mut records);
     lines(&records)
+}
+
+/// Lines that remove nothing, since from is above to.
+pub const EMPTY_LINES: [&str; 5] = [
+    "R\t5\t9\t3",
+    "R\t5\t4\t3",
+    "R\t1\t2\t1",
+    "R\t5\t4294967295\t1",
+    "R\t4294967295\t4294967295\t4294967294",
+];
+
+/// The lines with one more before the line `at`, counted from 0, or behind all.
+pub fn with_line(lines: &[Vec<u8>], at: usize, line: &str) -> Vec<Vec<u8>> {
+    let mut lines = lines.to_vec();
+    lines.insert(at, line.as_bytes().to_vec());
+    lines
 }
 
 /// Figures and the numbers they stand for, at both ends of each number of digits.
@@ -315,6 +331,7 @@ pub fn random_bytes(random: &mut Random, most: usize) -> Vec<u8> {
             let lines: [&[u8]; 4] = [b"A\t5\t2\n", b"R\t5\t2\t9\n", b"A\t1\t9\n", b"R\t1\t9\t1\n"];
             let part = |random: &mut Random| match random.below(10) {
                 0 => random.pick(&TOKENS),
+                1 => b"R\t1\t9\t0\n",
                 _ => random.pick(&lines),
             };
             (0..length).map(|_| part(random)).collect()

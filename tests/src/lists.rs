@@ -63,6 +63,7 @@ pub struct Figures {
     pub restarts: u64,
     pub wrapped: u64,
     pub annulling: [u64; 4],
+    pub with_empty_ranges: [u64; 4],
 }
 
 /// One list in play: the card, the history beside it, and the batch being worked in.
@@ -156,6 +157,8 @@ impl<'a, P: Program> List<'a, P> {
                 assert_eq!(finished.unwrap_or(false), answer.finished);
                 figures.writes[which as usize] += 1;
                 figures.annulling[which as usize] += u64::from(batches::annuls(&self.batch));
+                let empty = batches::has_empty_range(&self.batch);
+                figures.with_empty_ranges[which as usize] += u64::from(empty);
                 figures.finished += u64::from(answer.finished);
                 let live = self.card[3] + self.card[4] + self.card[5];
                 figures.wrapped += u64::from(live > self.n);

@@ -69,23 +69,10 @@ fn annul_refusals() {
     for round in 0..60 {
         let card = cards::any(&mut random, 8, 2 + round % 5);
         for (wrong, number) in WRONG_ANNULMENTS {
-            let mut step = |batch: &[u32]| {
+            for batch in batches::around(&mut random, wrong, round < 4) {
                 let about = || format!("{wrong:?}");
-                let answer = compare::step(&mut steps, &mut card.clone(), batch, &about);
+                let answer = compare::step(&mut steps, &mut card.clone(), &batch, &about);
                 assert_eq!(answer, refused(number), "{wrong:?}");
-            };
-            step(wrong);
-            let front = annulment(1, random.pick(&[1, 2, 9, TOP])).words();
-            let front = front.repeat(1 + random.below(4));
-            let behind = [1, TOP, TOP, TOP].repeat(random.below(4));
-            step(&[&front, wrong, &behind].concat());
-            if round < 4 {
-                // In a batch as long as can be.
-                let room = MOST_RECORDS - wrong.len() / 4;
-                let many = annulment(1, 7).words().repeat(room);
-                step(&[&many, wrong].concat());
-                let many = [1, TOP, TOP, TOP].repeat(room);
-                step(&[wrong, &many].concat());
             }
         }
     }
@@ -105,8 +92,9 @@ fn annul_refusals() {
     steps.expect(&[7], 500);
 }
 
-/// Every batch of two stretches over five positions, and of three over three, in order; each alone
-/// and with an addition or a removal; on small cards with the pairs around them, in both segments.
+/// Every batch of two stretches over five positions, and of three over three, from any position to
+/// any, in order; each alone and with an addition or a removal; on small cards with the pairs around
+/// them, in both segments.
 #[test]
 fn annul_with_every_few_stretches() {
     let mut random = Random::new(202);
@@ -161,9 +149,8 @@ fn annul_with_every_few_stretches() {
         ),
     ];
     let stretches = |positions: &[u32]| -> Vec<Record> {
-        let from = |i: usize| positions[i..].iter().map(move |&to| (positions[i], to));
-        let all = (0..positions.len()).flat_map(from);
-        all.map(|(from, to)| annulment(from, to)).collect()
+        let from = |&from: &u32| positions.iter().map(move |&to| annulment(from, to));
+        positions.iter().flat_map(from).collect()
     };
     let mut batches: Vec<Vec<Record>> = Vec::new();
     let two = stretches(&[1, 2, 3, TOP - 1, TOP]);
@@ -205,6 +192,7 @@ fn annul_with_every_few_stretches() {
     steps.report("annul_with_every_few_stretches");
     steps.expect(&[0], 3_000);
     assert!(steps.passes > 1_000 && steps.annulling_in_mid_pass > 500);
+    assert!(steps.with_empty_ranges > 3_000 && steps.empty_ranges_in_mid_pass > 500);
 }
 
 /// How a card's positions lie along its terms.
@@ -314,10 +302,12 @@ struct Met {
     taken_after_a_rise: u64,
     taken_after_a_fall: u64,
     kept_after_a_fall: u64,
+    kept_in_an_empty_range: u64,
 }
 
 impl Met {
-    /// Positions at both ends of a stretch and beside them, and terms that go up and down, came more often than this.
+    /// Positions at both ends of a stretch and beside them, positions from to to from where from is
+    /// above to, and terms that go up and down, came more often than this.
     fn expect_shapes(&self, least: u64) {
         for shape in [
             self.at_from,
@@ -327,6 +317,7 @@ impl Met {
             self.taken_after_a_rise,
             self.taken_after_a_fall,
             self.kept_after_a_fall,
+            self.kept_in_an_empty_range,
         ] {
             assert!(shape > least, "a shape came {shape} times: {self:?}");
         }
@@ -334,8 +325,11 @@ impl Met {
 
     /// Of pairs on a card, before the batch, and the index after it.
     fn note(&mut self, records: &[Record], before: &BTreeSet<Pair>, after: &BTreeSet<Pair>) {
-        let froms: BTreeSet<u32> = records.iter().map(|record| record.from).collect();
-        let tos: BTreeSet<u32> = records.iter().map(|record| record.to).collect();
+        let (empty, stretches): (Vec<&Record>, Vec<&Record>) =
+            records.iter().partition(|record| record.is_empty_range());
+        let froms: BTreeSet<u32> = stretches.iter().map(|record| record.from).collect();
+        let tos: BTreeSet<u32> = stretches.iter().map(|record| record.to).collect();
+        let in_empty = |position: u32| empty.iter().any(|r| r.to <= position && position <= r.from);
         let mut taken = 0;
         let mut last = (0, 0);
         for &pair in before {
@@ -351,6 +345,7 @@ impl Met {
             self.taken_after_a_rise += u64::from(gone && new_term && position > last.1);
             self.taken_after_a_fall += u64::from(gone && new_term && position < last.1);
             self.kept_after_a_fall += u64::from(!gone && new_term && position < last.1);
+            self.kept_in_an_empty_range += u64::from(!gone && in_empty(position));
             last = pair;
         }
         self.batches += 1;
@@ -575,6 +570,7 @@ fn annul_in_mid_pass() {
     println!("annul_in_mid_pass: {changes} passes taken over by annulments");
     steps.expect(&[0], 10_000);
     assert!(changes > 300 && steps.annulling_in_mid_pass > 1_000);
+    assert!(steps.empty_ranges_in_mid_pass > 500);
 }
 
 /// Hundreds of places freed by one write, since what they held is annulled; and the largest card, of

@@ -447,4 +447,6 @@ fn lists_on_the_library_against_the_history() {
     assert!(figures.finished > 1000 && figures.stopped_by_8 > 1000 && figures.landed > 500);
     assert!(figures.wrapped > 1000 && figures.postings > 1000 && figures.restarts > 1000);
     assert!(figures.annulling[1..].iter().all(|&count| count > 1000));
+    let empty = &figures.with_empty_ranges[1..];
+    assert!(empty.iter().all(|&count| count > 1000));
 }

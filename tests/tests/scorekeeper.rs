@@ -12,7 +12,7 @@ use std::process::{Child, Command, Output, Stdio};
 use std::thread;
 use std::time::{Duration, Instant};
 
-use gameindex_tests::batches::{Mixture, Universe};
+use gameindex_tests::batches::{addition, Mixture, Universe};
 use gameindex_tests::compare::Tally;
 use gameindex_tests::files;
 use gameindex_tests::random::Random;
@@ -184,7 +184,15 @@ fn scorekeeper_outputs_written_out() {
         ("R\t1\t1\t4294967295\nA\t1\t1\n", "D\t3\n"),
         ("A\t0\t2\n", "N\t6\n"),
         ("A\t5\t0\n", "N\t6\n"),
-        ("R\t5\t9\t2\n", "N\t6\n"),
+        // A range with no game in it removes nothing; a zero in it is refused as before.
+        ("R\t5\t9\t2\n", "D\t1\n"),
+        ("R\t5\t9\t3", "D\t1\n"),
+        ("R\t5\t4294967295\t1", "D\t1\n"),
+        ("A\t5\t4\nR\t5\t9\t3\n", "D\t3\n"),
+        ("R\t5\t9\t3\nA\t5\t4\n", "D\t3\n"),
+        ("R\t5\t9\t0\n", "N\t6\n"),
+        ("R\t5\t1\t0\n", "N\t6\n"),
+        ("R\t0\t9\t3\n", "N\t6\n"),
         ("R\t5\t0\t2\n", "N\t6\n"),
         ("R\t5\t0\t0\n", "N\t6\n"),
         ("A\t5\t2\nR\t0\t1\t1", "N\t6\n"),
@@ -239,9 +247,9 @@ fn scorekeeper_outputs_written_out() {
     let output = child.wait_with_output().expect("the program ends");
     check(&output, "D\t3\n", &|| "from the second line".to_string());
     runs.report();
-    runs.tally.expect(&[0], 25);
+    runs.tally.expect(&[0], 34);
     runs.tally.expect(&[12], 14);
-    runs.tally.expect(&[6], 11);
+    runs.tally.expect(&[6], 13);
     runs.tally.expect(&[8], 4);
     runs.tally.expect(&[13], 2);
 }
@@ -334,6 +342,45 @@ fn scorekeeper_runs_passes() {
     for steps in [1, 3, 6, 9, 12, 15] {
         assert!(runs.by_steps[steps] >= 20, "{steps} steps too seldom");
     }
+}
+
+/// A range with no game in it at every line of a file prints what the file without it prints; with
+/// 0 for its to it is refused there.
+#[test]
+fn scorekeeper_on_empty_ranges() {
+    let mut random = Random::new(126);
+    let mut runs = Runs::new("scorekeeper_on_empty_ranges");
+    for round in 0..24 {
+        let universe = Universe::random(&mut random);
+        let mut lines = files::good_lines(&mut random, &universe, Mixture::Both, 12);
+        if round % 4 == 0 {
+            // More than the card holds.
+            lines = (1..=11)
+                .map(|term| files::line(&addition(term, 7)))
+                .collect();
+        }
+        let whole = scores::printed(&files::file(&lines, true));
+        for at in 0..=lines.len() {
+            let line = random.pick(&files::EMPTY_LINES);
+            let bytes = files::file(&files::with_line(&lines, at, line), random.chance(1, 2));
+            assert_eq!(scores::printed(&bytes), whole, "{line} as line {}", at + 1);
+            runs.compare(&bytes);
+        }
+        let at = random.below(lines.len() + 1);
+        let refused = files::file(&files::with_line(&lines, at, "R\t5\t9\t0"), true);
+        runs.expect(&refused, "N\t6\n");
+    }
+    // Nothing but such lines, and one line too many of them.
+    for line in files::EMPTY_LINES {
+        let line = [line, "\n"].concat();
+        runs.expect(line.as_bytes(), "D\t1\n");
+        runs.expect(line.repeat(4096).as_bytes(), "D\t1\n");
+        runs.expect(line.repeat(4097).as_bytes(), "N\t13\n");
+    }
+    runs.report();
+    runs.tally.expect(&[0], 100);
+    runs.tally.expect(&[8], 50);
+    runs.tally.expect(&[6], 24);
 }
 
 /// Bytes at random, files with one byte changed, and bytes above 127.

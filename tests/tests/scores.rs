@@ -62,13 +62,14 @@ fn scores_written_out() {
         };
         read(t, "A\t5\t2", &[1, 5, 2, 2]);
         read(t, "R\t5\t2\t9", &[2, 5, 2, 9]);
-        // Zeros and ranges that fall are for the judge of the batch.
+        // Zeros are for the judge of the batch.
         read(t, "A\t0\t0", &[1, 0, 0, 0]);
         read(t, "R\t0\t0\t0", &[2, 0, 0, 0]);
         // No line says a removal under every term: this is one of term 0.
         read(t, "R\t0\t1\t9", &[2, 0, 1, 9]);
         read(t, "A\t5\t2\nR\t0\t1\t9", &[2, 0, 1, 9, 1, 5, 2, 2]);
         read(t, "R\t1\t9\t2", &[2, 1, 9, 2]);
+        read(t, "R\t5\t9\t0", &[2, 5, 9, 0]);
         let top = "4294967295";
         let longest = format!("R\t{top}\t{top}\t{top}");
         assert_eq!(longest.len(), 34);
@@ -80,6 +81,18 @@ fn scores_written_out() {
         read(t, "A\t5\t9\nA\t6\t1", &[1, 5, 9, 9, 1, 6, 1, 1]);
         read(t, "A\t6\t1\nA\t5\t9", &[1, 5, 9, 9, 1, 6, 1, 1]);
         read(t, "A\t0\t9\nR\t0\t1\t1", &[2, 0, 1, 1, 1, 0, 9, 9]);
+        // By from also where to is below it.
+        read(t, "R\t5\t9\t3\nA\t5\t4", &[1, 5, 4, 4, 2, 5, 9, 3]);
+        read(t, "A\t5\t4\nR\t5\t9\t3", &[1, 5, 4, 4, 2, 5, 9, 3]);
+        read(t, "R\t5\t9\t3\nR\t5\t8\t7", &[2, 5, 8, 7, 2, 5, 9, 3]);
+        read(t, "R\t5\t9\t3\nA\t5\t9", &[2, 5, 9, 3, 1, 5, 9, 9]);
+        read(t, "A\t5\t9\nR\t5\t9\t3", &[1, 5, 9, 9, 2, 5, 9, 3]);
+        read(t, &format!("R\t5\t{top}\t1"), &[2, 5, TOP, 1]);
+        read(
+            t,
+            &format!("R\t5\t{top}\t1\nR\t5\t9\t{top}"),
+            &[2, 5, 9, TOP, 2, 5, TOP, 1],
+        );
         // Equal in both: in the order of their lines, whatever kind and to are.
         read(t, "A\t5\t2\nR\t5\t2\t9", &[1, 5, 2, 2, 2, 5, 2, 9]);
         read(t, "R\t5\t2\t9\nA\t5\t2", &[2, 5, 2, 9, 1, 5, 2, 2]);
@@ -710,6 +723,14 @@ fn passes_with_the_batch_of_a_file() {
         ("A\t0\t5\n", Outcome::Number(6)),
         ("A\t5\t2\nR\t0\t1\t9\n", Outcome::Number(6)),
         ("A\t5\t2\nR\t5\t1\t9\n", Outcome::Steps(3)),
+        // Ranges with no game in them.
+        ("R\t5\t9\t3", Outcome::Steps(1)),
+        ("R\t5\t4294967295\t1\n", Outcome::Steps(1)),
+        ("R\t5\t9\t3\nA\t5\t4\nA\t5\t9\n", Outcome::Steps(3)),
+        ("R\t5\t9\t0", Outcome::Number(6)),
+        ("R\t5\t1\t0\n", Outcome::Number(6)),
+        ("R\t5\t0\t3\n", Outcome::Number(6)),
+        ("R\t0\t9\t3\n", Outcome::Number(6)),
     ] {
         assert_eq!(library_outcome(bytes.as_bytes()), outcome, "{bytes}");
         assert_eq!(scores::outcome(bytes.as_bytes()), outcome, "{bytes}");
@@ -751,4 +772,40 @@ fn passes_with_the_batch_of_a_file() {
             "{steps} steps too seldom: {by_steps:?}"
         );
     }
+}
+
+/// A line whose range has no game in it, put in at every line of a file: the batch is the file's with
+/// that one record more, by its from, and the pass ends as it does without it.
+#[test]
+fn scores_with_an_empty_range_at_every_line() {
+    let mut random = Random::new(113);
+    let mut tally = Tally::new();
+    let mut ends = Tally::new();
+    for round in 0..300 {
+        let universe = Universe::random(&mut random);
+        let most = [4, 12, 40][round % 3];
+        let lines = files::good_lines(&mut random, &universe, Mixture::Both, most);
+        let whole = library_outcome(&files::file(&lines, true));
+        for at in 0..=lines.len() {
+            for line in files::EMPTY_LINES {
+                let about = || format!("{line} as line {} of {}", at + 1, lines.len() + 1);
+                let bytes = files::file(&files::with_line(&lines, at, line), random.chance(1, 2));
+                compare::scores_by_room(&mut tally, &mut random, &bytes, &about);
+                let outcome = library_outcome(&bytes);
+                assert_eq!(outcome, whole, "{}", about());
+                assert_eq!(outcome, scores::outcome(&bytes), "{}", about());
+                ends.note(match outcome {
+                    Outcome::Number(number) => number,
+                    Outcome::Steps(_) => 0,
+                });
+            }
+            let zero = files::file(&files::with_line(&lines, at, "R\t5\t9\t0"), true);
+            assert_eq!(library_outcome(&zero), Outcome::Number(6));
+            ends.note(6);
+        }
+    }
+    tally.report("scores_with_an_empty_range_at_every_line");
+    ends.report("scores_with_an_empty_range_at_every_line, passes");
+    tally.expect(&[0, 10], 5_000);
+    ends.expect(&[0, 6, 8], 500);
 }

@@ -4,7 +4,8 @@
 use std::collections::BTreeSet;
 
 use gameindex_tests::batches::{
-    self, addition, annulment, removal, Mixture, Stretches, Universe, WRONG_ANNULMENTS,
+    self, addition, annulment, removal, Mixture, Stretches, Universe, EMPTY_RANGES,
+    EMPTY_RANGES_IN_ORDER, WRONG_ANNULMENTS, WRONG_EMPTY_RANGES,
 };
 use gameindex_tests::cards;
 use gameindex_tests::compare::{done, refused};
@@ -226,7 +227,6 @@ fn numbers_of_the_batch() {
         [1, 5, 0, 0],
         [2, 5, 0, 2],
         [2, 5, 2, 0],
-        [2, 5, 3, 2],
         [1, 5, 3, 2],
         [1, 5, 2, 3],
     ] {
@@ -259,17 +259,128 @@ fn numbers_of_annulments() {
     assert_eq!(number(&[3, 0, 5, 9].repeat(4096)), 0);
     assert_eq!(number(&[3, 0, 5, 9].repeat(4097)), 6);
     for (wrong, expected) in WRONG_ANNULMENTS {
-        assert_eq!(number(wrong), expected, "{wrong:?}");
-        // So it is behind good records in front and before good ones at the end.
-        let between = [&[3, 0, 1, 1], wrong, &[1, top, top, top]].concat();
-        assert_eq!(number(&between), expected, "{between:?}");
-        // A refused step writes nothing.
-        let mut card = p1(4);
-        let before = card.clone();
-        assert_eq!(second::step(&mut card, wrong), refused(expected));
-        assert_eq!(second::due_write(&card, wrong), None);
-        assert_eq!(card, before);
+        is_refused(wrong, expected);
     }
+}
+
+/// The batch has this number, also behind good records in front and before good ones at the end, and
+/// a step with it writes nothing.
+fn is_refused(wrong: &[u32], expected: u32) {
+    let mut random = Random::new(14);
+    for batch in batches::around(&mut random, wrong, true) {
+        assert_eq!(second::judge_batch(&batch), expected, "{wrong:?}");
+    }
+    let mut card = p1(4);
+    let before = card.clone();
+    assert_eq!(second::step(&mut card, wrong), refused(expected));
+    assert_eq!(second::due_write(&card, wrong), None);
+    assert_eq!(card, before);
+}
+
+/// A removal whose from is above its to is well formed, of either kind, and stands by its from. All
+/// other grounds are as they were.
+#[test]
+fn numbers_of_empty_ranges() {
+    let number = second::judge_batch;
+    for (from, to) in EMPTY_RANGES {
+        for term in [1, 5, u32::MAX] {
+            assert_eq!(number(&[2, term, from, to]), 0);
+            assert_eq!(number(&[1, term, from, to]), 6);
+            assert_eq!(number(&[3, term, from, to]), 6);
+            assert_eq!(number(&[2, term, from, 0]), 6);
+        }
+        assert_eq!(number(&[3, 0, from, to]), 0);
+        assert_eq!(number(&[3, 0, from, 0]), 6);
+        assert_eq!(number(&[2, 0, from, to]), 6);
+        assert_eq!(number(&[2, 5, from, to].repeat(4096)), 0);
+        assert_eq!(number(&[2, 5, from, to].repeat(4097)), 6);
+    }
+    for good in EMPTY_RANGES_IN_ORDER {
+        assert_eq!(number(good), 0, "{good:?}");
+    }
+    for (wrong, expected) in WRONG_EMPTY_RANGES {
+        is_refused(wrong, expected);
+    }
+}
+
+/// What a batch leaves of (5,2), (5,9), (7,4) where a range of it has no position.
+#[test]
+fn empty_ranges_remove_nothing() {
+    let all: &[Pair] = &[(5, 2), (5, 9), (7, 4)];
+    let set: BTreeSet<Pair> = all.iter().copied().collect();
+    let top = u32::MAX;
+    for (from, to) in EMPTY_RANGES {
+        for term in [1, 4, 5, 6, 7, 8, top] {
+            assert_eq!(second::applied(&[2, term, from, to], &set), set);
+        }
+        assert_eq!(second::applied(&[3, 0, from, to], &set), set);
+    }
+    let cases: [(&[u32], &[Pair]); 14] = [
+        (&[2, 5, 9, 2], all),
+        (&[2, 5, 3, 2], all),
+        (&[2, 5, 9, 8], all),
+        (&[2, 7, 5, 4], all),
+        (&[3, 0, 9, 2], all),
+        (&[3, 0, 5, 4, 2, 5, 9, 2, 2, 7, 4, 3], all),
+        // Inside a range, starting with it, ending with it, and beside it.
+        (&[2, 5, 1, 9, 2, 5, 9, 2], &[(7, 4)]),
+        (&[2, 5, 2, 9, 2, 5, 2, 1], &[(7, 4)]),
+        (&[2, 5, 2, 1, 2, 5, 2, 9], &[(7, 4)]),
+        (&[2, 5, 3, 2, 2, 5, 9, 9], &[(5, 2), (7, 4)]),
+        (&[3, 0, 2, 4, 3, 0, 3, 2, 3, 0, 9, 3], &[(5, 9)]),
+        (&[3, 0, 9, 2, 2, 5, 2, 2], &[(5, 9), (7, 4)]),
+        // With the from of an addition.
+        (&[1, 5, 3, 3, 2, 5, 3, 2], &[(5, 2), (5, 3), (5, 9), (7, 4)]),
+        (
+            &[2, 6, top, 1, 1, 6, top, top],
+            &[(5, 2), (5, 9), (6, top), (7, 4)],
+        ),
+    ];
+    for (batch, expected) in cases {
+        assert_eq!(second::judge_batch(batch), 0);
+        let left: Vec<Pair> = second::applied(batch, &set).into_iter().collect();
+        assert_eq!(left, expected, "{batch:?}");
+    }
+}
+
+/// P1, P2, P5 and P6 with ranges that have no position: the same steps and the same words.
+#[test]
+fn empty_ranges_change_no_step() {
+    let run = |batch: &[u32]| {
+        let mut card = p1(4);
+        let mut answers = Vec::new();
+        let mut cards = Vec::new();
+        while !answers.last().is_some_and(|last| *last == done(3, 1, true)) {
+            answers.push(second::step(&mut card, batch));
+            assert!(answers.len() <= 3);
+            cards.push(card.clone());
+        }
+        (answers, cards)
+    };
+    let top = u32::MAX;
+    let plain: [&[u32]; 4] = [
+        &[],
+        &[1, 7, 11, 11],
+        &[2, 5, 2, 9, 1, 5, 9, 9],
+        &[2, 5, 1, top, 2, 7, 1, top],
+    ];
+    let with: [&[u32]; 4] = [
+        &[2, 5, 9, 2],
+        &[3, 0, top, 1, 2, 7, 5, 4, 1, 7, 11, 11, 2, 7, 11, 4],
+        &[3, 0, 9, 2, 2, 5, 2, 1, 2, 5, 2, 9, 2, 5, 9, 2, 1, 5, 9, 9],
+        &[2, 5, 1, top, 2, 5, 9, 2, 2, 7, 1, top, 2, top, top, 1],
+    ];
+    for (plain, with) in plain.into_iter().zip(with) {
+        assert_eq!(run(plain), run(with), "{with:?}");
+        assert_eq!(batches::without_empty_ranges(with), plain);
+    }
+    let (answers, cards) = run(&[3, 0, 9, 2]);
+    assert_eq!(
+        answers,
+        [done(1, 0, false), done(2, 0, false), done(3, 1, true)]
+    );
+    assert_eq!(cards[2][..8], [1, 8, 4, 1, 1, 0, 0, 0]);
+    assert_eq!(block_at(&cards[2], 1), [5, 2, 2, 9, 7, 1, 4, 0]);
 }
 
 /// Round 2 stood at positions 3 to 9 under three terms. It goes; the game at 9 under term 7 is added
@@ -501,6 +612,7 @@ struct Met {
     annulled_and_added: u64,
     annulled_and_removed: u64,
     beside: u64,
+    in_an_empty_range: u64,
 }
 
 /// Whether a pair is in the set less everything removed, plus everything added: it is where some
@@ -511,9 +623,15 @@ fn expected_in(met: &mut Met, batch: &[u32], set: &BTreeSet<Pair>, pair: Pair) -
     let mut removed = false;
     let mut annulled = false;
     let mut beside = false;
+    let mut empty = false;
     for record in batch.chunks(4) {
         let (kind, its_term, from, to) = (record[0], record[1], record[2], record[3]);
         let within = from <= position && position <= to;
+        if from > to {
+            // No position is within it.
+            empty |= (its_term == term || kind == 3) && to <= position && position <= from;
+            continue;
+        }
         match kind {
             1 => added |= its_term == term && from == position,
             2 => removed |= its_term == term && within,
@@ -530,6 +648,7 @@ fn expected_in(met: &mut Met, batch: &[u32], set: &BTreeSet<Pair>, pair: Pair) -
     met.annulled_and_added += u64::from(was && annulled && added);
     met.annulled_and_removed += u64::from(was && annulled && removed && !added);
     met.beside += u64::from(was && beside && !annulled && !removed);
+    met.in_an_empty_range += u64::from(was && empty && !annulled && !removed);
     added || (was && !removed && !annulled)
 }
 
@@ -563,6 +682,7 @@ fn batches_applied_pair_by_pair() {
     );
     assert!(met.annulled > 5_000 && met.annulled_and_added > 500);
     assert!(met.annulled_and_removed > 500 && met.beside > 500);
+    assert!(met.in_an_empty_range > 500);
 }
 
 /// Stretches of every shape, up to the most records, beside other records, over positions at their
@@ -615,6 +735,7 @@ fn stretches_applied_pair_by_pair() {
     );
     assert!(met.annulled > 1_000 && met.annulled_and_added > 50);
     assert!(met.annulled_and_removed > 50 && met.beside > 200);
+    assert!(met.in_an_empty_range > 500);
 }
 
 #[test]
@@ -638,6 +759,8 @@ fn lists_of_calls_against_the_history() {
     assert!(figures.finished > 1000 && figures.stopped_by_8 > 1000 && figures.landed > 1000);
     assert!(figures.wrapped > 1000 && figures.postings > 1000);
     assert!(figures.annulling[1..].iter().all(|&count| count > 1000));
+    let empty = &figures.with_empty_ranges[1..];
+    assert!(empty.iter().all(|&count| count > 1000));
 }
 
 /// Runs a pass to its end. Gives the steps taken and the last answer's number.
@@ -711,10 +834,11 @@ fn removals_of(random: &mut Random, card: &[u32]) -> Vec<u32> {
     for (term, position) in second::live_pairs(card) {
         if random.chance(1, 4) {
             let to = position.saturating_add(random.below(3) as u32);
+            let (from, to) = batches::or_empty(random, (position, to));
             if random.chance(of_every_term, 4) {
-                records.push(annulment(position, to));
+                records.push(annulment(from, to));
             } else {
-                records.push(removal(term, position, to));
+                records.push(removal(term, from, to));
             }
         }
     }
@@ -1150,6 +1274,9 @@ fn batches_of_files() {
     let swapped = text.replace("R\t7\t4\t9", "R\t7\t4\t1");
     let words = scores::batch(swapped.as_bytes());
     assert_eq!(words[8..12], [2, 7, 4, 1]);
+    // A range that has no position stands by its from as well.
+    let words = scores::batch(b"R\t5\t9\t3\nA\t5\t4\nA\t5\t10");
+    assert_eq!(words, [1, 5, 4, 4, 2, 5, 9, 3, 1, 5, 10, 10]);
     // Many lines, sixteen to a from, the froms falling: each sixteen stay in the order of their lines.
     let mut many = String::new();
     for i in 0..4096 {
@@ -1232,14 +1359,32 @@ fn passes_of_files() {
         prints(&many_terms(count), &format!("D\t{steps}\n"));
     }
     prints(&many_terms(11), "N\t8\n");
+    // A range with no position removes nothing.
+    for line in [
+        "R\t5\t9\t2",
+        "R\t5\t9\t3",
+        "R\t5\t3\t2",
+        "R\t5\t4294967295\t1",
+    ] {
+        prints(line, "D\t1\n");
+        prints(&format!("A\t5\t2\n{line}\nA\t5\t2"), "D\t3\n");
+        prints(&format!("{line}\nA\t5\t2\nA\t5\t9"), "D\t3\n");
+        prints(&format!("{}\n{line}", many_terms(10)), "D\t15\n");
+        prints(&format!("{}\n{line}", many_terms(11)), "N\t8\n");
+        prints(&format!("{line}\nx"), "N\t12\n");
+        let many = format!("{line}\n").repeat(4096);
+        prints(many.trim_end(), "D\t1\n");
+        prints(&(many + "A\t5\t2"), "N\t13\n");
+    }
     // The batch's judge gives 6, after all faults of lines and before 8.
     for line in [
         "A\t0\t2",
         "A\t5\t0",
         "R\t0\t2\t9",
+        "R\t0\t9\t2",
         "R\t5\t0\t9",
         "R\t5\t2\t0",
-        "R\t5\t9\t2",
+        "R\t5\t9\t0",
     ] {
         prints(line, "N\t6\n");
         prints(&format!("A\t5\t2\n{line}\nA\t5\t2"), "N\t6\n");

@@ -3,7 +3,7 @@
 use std::collections::BTreeSet;
 
 use gameindex_tests::batches::{
-    self, addition, annulment, removal, Mixture, Universe, WRONG_ANNULMENTS,
+    self, addition, annulment, removal, Mixture, Universe, WRONG_ANNULMENTS, WRONG_EMPTY_RANGES,
 };
 use gameindex_tests::cards;
 use gameindex_tests::compare::{self, done, refused, Steps};
@@ -241,7 +241,7 @@ fn step_with_bad_batches() {
                 let about = || format!("record {at}, field {field}");
                 compare::step(&mut steps, &mut card.clone(), &bad, &about);
             }
-            for (wrong, _) in WRONG_ANNULMENTS {
+            for (wrong, _) in WRONG_ANNULMENTS.iter().chain(&WRONG_EMPTY_RANGES) {
                 if random.chance(1, 8) {
                     let mut bad = batch.clone();
                     bad.splice(word..word, wrong.iter().copied());
@@ -286,14 +286,15 @@ fn exactly(random: &mut Random, universe: &Universe, count: usize) -> Vec<u32> {
     for at in 0..count {
         if at < annulments {
             let position = universe.position(random);
-            records.push(annulment(position, position));
+            let (from, to) = batches::or_empty(random, (position, position));
+            records.push(annulment(from, to));
             continue;
         }
         let term = universe.term(random);
         if random.chance(2, 3) {
             records.push(addition(term, universe.position(random)));
         } else {
-            let (from, to) = universe.range(random);
+            let (from, to) = universe.removed_range(random);
             records.push(removal(term, from, to));
         }
     }
@@ -433,16 +434,16 @@ fn step_on_every_small_index() {
     let mut pairs: Vec<Pair> = Vec::new();
     let mut records = Vec::new();
     for term in [1, 2, TOP] {
-        for (i, &from) in positions.iter().enumerate() {
+        for &from in &positions {
             pairs.push((term, from));
             records.push(addition(term, from).words());
-            for &to in &positions[i..] {
+            for &to in &positions {
                 records.push(removal(term, from, to).words());
             }
         }
     }
-    for (i, &from) in positions.iter().enumerate() {
-        records.extend(positions[i..].iter().map(|&to| annulment(from, to).words()));
+    for &from in &positions {
+        records.extend(positions.iter().map(|&to| annulment(from, to).words()));
     }
     for chosen in 0..1usize << pairs.len() {
         let set = pairs.iter().enumerate();
@@ -521,7 +522,7 @@ fn step_until_no_place_is_left() {
     println!("step_until_no_place_is_left: {removals_through} passes of removals, two places free");
     steps.expect(&[0], 10_000);
     steps.expect(&[8], 1_000);
-    assert!(steps.annulling > 500);
+    assert!(steps.annulling > 500 && steps.with_empty_ranges > 500);
 }
 
 /// Removals alone with two or more places free, on loose cards: 8 never comes.
@@ -557,28 +558,8 @@ fn step_through_passes_of_removals() {
     steps.expect(&[0], 5_000);
     assert!(stopped_with_one_free > 5);
     assert!(steps.annulling > 1_000 && steps.annulling_in_mid_pass > 500);
+    assert!(steps.with_empty_ranges > 1_000 && steps.empty_ranges_in_mid_pass > 500);
 }
-
-/// What a cut may leave of the words being written.
-fn cut_words(random: &mut Random, kind: usize, words: &mut [u32], wanted: &[u32], live: &[u32]) {
-    let torn = random.below(words.len() + 1);
-    match kind {
-        0 => {}
-        1 => random.fill(words),
-        2 => words[..torn].copy_from_slice(&wanted[..torn]),
-        3 => words[torn..].copy_from_slice(&wanted[torn..]),
-        4 => words.fill(0),
-        5 => words.fill(TOP),
-        6 => words.copy_from_slice(&live[..words.len()]),
-        _ => {
-            words.copy_from_slice(wanted);
-            let word = random.below(words.len());
-            words[word] ^= 1 << random.below(32);
-        }
-    }
-}
-
-const CUT_KINDS: usize = 8;
 
 /// A pass cut at each of its steps with every kind of words left behind; then the same batch, or
 /// another, goes on.
@@ -599,7 +580,7 @@ fn step_after_cuts_in_every_write() {
                 break;
             };
             let wanted = second::step::due_words(&card, &batch).expect("not refused");
-            for kind in 0..CUT_KINDS {
+            for kind in 0..cards::CUT_KINDS {
                 cuts[which as usize] += 1;
                 let mut cut = card.clone();
                 if which == 3 {
@@ -611,7 +592,7 @@ fn step_after_cuts_in_every_write() {
                     let place = random.below(n as usize);
                     let live = Configuration::read(&card).block(&card, place).to_vec();
                     let words = &mut cut[range.clone()];
-                    cut_words(&mut random, kind, words, &wanted, &live);
+                    cards::cut_words(&mut random, kind, words, &wanted, &live);
                 }
                 let about = || format!("cut in write {which}, kind {kind}");
                 if random.chance(1, 4) {
@@ -635,6 +616,7 @@ fn step_after_cuts_in_every_write() {
     steps.expect(&[0], 20_000);
     assert!(cuts[1..].iter().all(|&count| count > 1_000));
     assert!(steps.annulling > 3_000 && steps.annulling_in_mid_pass > 1_000);
+    assert!(steps.with_empty_ranges > 3_000 && steps.empty_ranges_in_mid_pass > 1_000);
 }
 
 /// Lists of steps with changing batches, cuts, restarts and refused calls against the history.
@@ -677,8 +659,9 @@ fn step_in_lists_against_the_history() {
                         } else if which != 3 {
                             let wanted = second::step::due_words(&card, &batch).expect("words");
                             let live = wanted.clone();
-                            let kind = random.below(CUT_KINDS);
-                            cut_words(&mut random, kind, &mut card[range], &wanted, &live);
+                            let kind = random.below(cards::CUT_KINDS);
+                            let words = &mut card[range];
+                            cards::cut_words(&mut random, kind, words, &wanted, &live);
                         }
                         history.cut_step(&batch, landed);
                     }

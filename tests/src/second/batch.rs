@@ -24,13 +24,18 @@ impl Record {
         [self.kind, self.term, self.from, self.to]
     }
 
+    /// Whether no position lies from from to to; only a removal may have such a range (document 02,
+    /// slip 5).
+    pub fn is_empty_range(&self) -> bool {
+        self.from > self.to
+    }
+
     fn is_well_formed(&self) -> bool {
         let kind_known = [ADD, REMOVE, ANNUL].contains(&self.kind);
         let term_of_its_kind = (self.term == 0) == (self.kind == ANNUL);
         let no_zero = self.from != 0 && self.to != 0;
-        let range_rises = self.from <= self.to;
         let one_pair = self.kind != ADD || self.from == self.to;
-        kind_known && term_of_its_kind && no_zero && range_rises && one_pair
+        kind_known && term_of_its_kind && no_zero && one_pair
     }
 }
 
@@ -63,9 +68,11 @@ pub fn judge_batch(batch: &[u32]) -> u32 {
     number::DONE
 }
 
-/// The set less everything removed, plus everything added, for a batch judged 0.
+/// The set less everything removed, plus everything added, for a batch judged 0. A range without a
+/// position removes nothing.
 pub fn applied(batch: &[u32], set: &BTreeSet<Pair>) -> BTreeSet<Pair> {
-    let records = records(batch);
+    let mut records = records(batch);
+    records.retain(|record| !record.is_empty_range());
     let mut result = set.clone();
     for record in records.iter().filter(|record| record.kind == REMOVE) {
         let stretch = (record.term, record.from)..=(record.term, record.to);
