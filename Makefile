@@ -25,8 +25,8 @@ help:
 	@echo 'make fmt     format Rattle, Rust and C files'
 	@echo 'make clean   remove all that was built'
 
-# additions of (5,2), (5,9), (7,4), (8,1) and the removal of 6 from 1 to 9; as text, the removal of 8 from 1 to 9 and the addition of (5,4);
-# then the removal of 4 to 9 under every term
+# additions of (5,2), (5,9), (7,4), (8,1) and the removal of 6 from 1 to 9; as text, the removal of 8 from 1 to 9, the addition of (5,4), and a
+# removal with no game in it; then the removal of 4 to 9 under every term
 run: target/gameindex
 	rm -f target/demo.card
 	tests/c/words.sh  1 5 2 2  1 5 9 9  2 6 1 9  1 7 4 4  1 8 1 1 >target/demo.batch
@@ -37,7 +37,7 @@ run: target/gameindex
 	target/gameindex lookup target/demo.card 5
 	target/gameindex lookup target/demo.card 8 2 9
 	target/gameindex page target/demo.card 5
-	printf 'R\t8\t1\t9\nA\t5\t4\n' >target/demo.scores
+	printf 'R\t8\t1\t9\nA\t5\t4\nR\t7\t9\t3\n' >target/demo.scores
 	target/gameindex apply --text target/demo.card target/demo.scores
 	target/gameindex page target/demo.card 5
 	target/gameindex page target/demo.card 7

@@ -95,10 +95,24 @@ static void show_reached(const char *path, const uint32_t *card) {
                path, card[GI_CONFIG_BOUNDARY_TERM], card[GI_CONFIG_BOUNDARY_POSITION]);
 }
 
+/* Shows how many removals of a batch have their from above their to: such a range may
+ * be meant, and may be two numbers in the wrong order. */
+static void show_empty_ranges(const char *path, const struct batch *batch) {
+    uint64_t ranges = 0;
+    for (size_t i = 0; i < batch->length; i += GI_RECORD_WORDS) {
+        const uint32_t *record = &batch->words[i];
+        ranges += record[0] != GI_RECORD_ADD && record[2] > record[3];
+    }
+    if (ranges != 0)
+        printf("%s: %" PRIu64 " %s%s with from above to, which %s nothing\n", path, COUNTED(ranges, "removal"),
+               ranges == 1 ? "removes" : "remove");
+}
+
 /* Shows what a run has done and gives the exit status for it. */
-static int show_end(const struct card_file *card, const struct progress *done) {
+static int show_end(const struct card_file *card, const struct batch *batch, const struct progress *done) {
     if (done->finished) {
         show_writes(card->path, "the pass is finished", done);
+        show_empty_ranges(card->path, batch);
         show_configuration(card->words);
         return EXIT_DONE;
     }
@@ -115,7 +129,7 @@ static int show_end(const struct card_file *card, const struct progress *done) {
 static int make_pass(const struct card_file *card, const struct batch *batch) {
     struct progress done = {0};
     int status = run_pass(card, batch, &done);
-    return status == EXIT_DONE ? show_end(card, &done) : status;
+    return status == EXIT_DONE ? show_end(card, batch, &done) : status;
 }
 
 /* ---- apply */

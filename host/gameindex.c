@@ -150,7 +150,7 @@ static void usage(FILE *out) {
     fprintf(out,
             "\ncards and batches are files of 32-bit words, little-endian; a batch is records of four: kind (1 adds,\n"
             "2 removes), term, from, to, by term, then from; an addition has from and to alike; kind 3, with term 0,\n"
-            "removes from from to to under every term\n");
+            "removes from from to to under every term; a removal with from above to removes nothing\n");
     fprintf(out,
             "\na scorekeepers' file is lines, in any order: A<tab>term<tab>position adds, R<tab>term<tab>from<tab>to "
             "removes\n");

@@ -50,7 +50,8 @@ enum {
 };
 
 /* The records of a batch: kind, term, from, to. Term 0 goes with kind 3 and kind 3
- * with term 0; from and to are at least 1, and from is not above to. */
+ * with term 0; from and to are at least 1. A removal of either kind whose from is
+ * above its to has no game in its range: it is in order and removes nothing. */
 enum {
     GI_RECORD_WORDS = 4,
     GI_BATCH_RECORDS_MAX = 4096,
@@ -210,7 +211,7 @@ uint32_t gi_page(const uint32_t *card, size_t card_len, uint32_t term, uint32_t 
  * Writes the batch of these records into the first batch words, sorted by term, then
  * from, records equal in both in the order of their lines; its length in words goes
  * behind words. The words after it are left as they are. The batch goes to gi_step,
- * which judges it: a figure 0, or from above to, gives 6 there.
+ * which judges it: a figure 0 gives 6 there.
  *
  * Gives 12 for a line of another form or with a figure above 4,294,967,295, and 13 for
  * the 4,097th line, whichever line comes first, and 12 where both are of one line;
