@@ -51,7 +51,7 @@ enum {
 
 /* The records of a batch: kind, term, from, to. Term 0 goes with kind 3 and kind 3
  * with term 0; from and to are at least 1. A removal of either kind whose from is
- * above its to has no game in its range: it is in order and removes nothing. */
+ * above its to has no game in its range: it is well formed and removes nothing. */
 enum {
     GI_RECORD_WORDS = 4,
     GI_BATCH_RECORDS_MAX = 4096,
