@@ -11,7 +11,7 @@ HOST_FILES = $(wildcard host/*.c)
 HOST_HEADERS = $(wildcard host/*.h)
 BENCH_FILES = bench/bench.c bench/bench.h
 BENCH_CC = $(CC) $(WARNINGS) -O3 -Iinclude -Ibench
-TEST_FILES = tests/c/test_gameindex.c tests/c/format_judge.c tests/c/step.c tests/c/lookup.c tests/c/page.c tests/c/scores.c
+TEST_FILES = tests/c/test_gameindex.c tests/c/format_judge.c tests/c/step.c tests/c/forecast.c tests/c/lookup.c tests/c/page.c tests/c/scores.c
 C_FILES = $(wildcard include/*.h host/*.[ch] tests/c/*.[ch] bench/*.[ch])
 
 .DELETE_ON_ERROR:
@@ -21,7 +21,7 @@ help:
 	@echo 'make run     build the library and the host program; make a card, apply a batch and a text file, annul, look up, print'
 	@echo 'make test    run the merge gate, .ci/run'
 	@echo 'make pins    write tests/pins anew, which the gate holds the source to; read its diff'
-	@echo 'make bench   time the judge, lookups, pages and scores against plain C, steps against the judge'
+	@echo 'make bench   time the judge, forecasts, lookups, pages and scores against plain C, steps against the judge'
 	@echo 'make fmt     format Rattle, Rust and C files'
 	@echo 'make clean   remove all that was built'
 
@@ -99,8 +99,8 @@ target/bench_judge: bench/judge.c bench/judge_c.c bench/judge_c.h $(BENCH_FILES)
 target/bench_step: bench/step.c $(BENCH_FILES) $(HEADER) $(LIBRARY)
 	$(BENCH_CC) -o $@ bench/step.c bench/bench.c $(LIBRARY)
 
-target/bench_batches: bench/batches.c $(BENCH_FILES) $(HEADER) $(LIBRARY)
-	$(BENCH_CC) -o $@ bench/batches.c bench/bench.c $(LIBRARY)
+target/bench_batches: bench/batches.c bench/forecast_c.c bench/forecast_c.h bench/judge_c.c bench/judge_c.h $(BENCH_FILES) $(HEADER) $(LIBRARY)
+	$(BENCH_CC) -o $@ bench/batches.c bench/forecast_c.c bench/judge_c.c bench/bench.c $(LIBRARY)
 
 target/bench_lookup: bench/lookup.c bench/lookup_c.c bench/lookup_c.h $(BENCH_FILES) $(HEADER) $(LIBRARY)
 	$(BENCH_CC) -o $@ bench/lookup.c bench/lookup_c.c bench/bench.c $(LIBRARY)

@@ -1,14 +1,16 @@
-/* Times a step with batches that try to hold it up, against the judge alone on
- * the same card. The cards are 81 full blocks, so that a step which withdraws
- * every pair goes over all of them; one that withdraws none stops when its block
- * is full. The last rows are ordinary steps. The two take turns, call by call,
- * and the median of each counts. */
+/* Times a step and a forecast with batches that try to hold them up, against the
+ * judge alone on the same card, and the forecast against one in plain C. The cards
+ * are 81 full blocks, so that a step which withdraws every pair goes over all of
+ * them; one that withdraws none stops when its block is full. A forecast always
+ * goes over all. The last rows are ordinary batches. The four take turns, call by
+ * call, and the median of each counts. */
 #include <stdbool.h>
 #include <stdio.h>
 #include <stdlib.h>
 #include <string.h>
 
 #include "bench.h"
+#include "forecast_c.h"
 
 enum { CALLS = 61, BLOCKS = 81, ORDINARY_BLOCKS = 403, TERM = 5, LAST_TERM = 9 };
 
@@ -218,26 +220,64 @@ static uint32_t far_apart(uint32_t term, uint32_t i) {
 
 /* ---- the clock */
 
+struct figures {
+    uint32_t blocks;
+    uint32_t limit;
+    uint32_t finishes;
+    uint32_t writes;
+};
+
+static double timed_step(uint32_t *card, const uint32_t *batch, uint32_t *finished) {
+    uint32_t write;
+    uint32_t freed;
+    double began = seconds();
+    if (gi_step(card, CARD_WORDS, batch, BATCH_WORDS, &write, &freed, finished) != GI_DONE)
+        give_up("a step was refused");
+    return seconds() - began;
+}
+
+static double timed_forecast(const uint32_t *card, const uint32_t *batch, struct figures *told) {
+    double began = seconds();
+    if (gi_forecast(card, CARD_WORDS, batch, BATCH_WORDS, &told->blocks, &told->limit, &told->finishes,
+                    &told->writes) != GI_DONE)
+        give_up("a forecast was refused");
+    return seconds() - began;
+}
+
+static double timed_plain(const uint32_t *card, const uint32_t *batch, struct figures *told) {
+    double began = seconds();
+    if (forecast_c(card, CARD_WORDS, batch, BATCH_WORDS, &told->blocks, &told->limit, &told->finishes, &told->writes) !=
+        GI_DONE)
+        give_up("a forecast in plain C was refused");
+    return seconds() - began;
+}
+
 /* Gives whether the step finished its pass: nothing remained, so it went over the
  * whole card. */
 static bool time_batch(const char *name, uint32_t *card, const uint32_t *batch) {
     static double in_step[CALLS];
     static double in_judge[CALLS];
+    static double in_forecast[CALLS];
+    static double in_plain[CALLS];
     struct before words = kept(card);
+    struct figures told;
+    struct figures plainly;
     uint32_t finished = 0;
     for (int i = 0; i < CALLS; i++) {
-        uint32_t write;
-        uint32_t freed;
         in_judge[i] = timed_judge(card);
-        double began = seconds();
-        if (gi_step(card, CARD_WORDS, batch, BATCH_WORDS, &write, &freed, &finished) != GI_DONE)
-            give_up("a step was refused");
-        in_step[i] = seconds() - began;
+        in_step[i] = timed_step(card, batch, &finished);
         put_back(card, &words);
+        in_forecast[i] = timed_forecast(card, batch, &told);
+        in_plain[i] = timed_plain(card, batch, &plainly);
+        if (memcmp(&told, &plainly, sizeof told) != 0)
+            give_up("the forecasts differ");
     }
     double step = median(in_step, CALLS);
     double judge = median(in_judge, CALLS);
-    printf("%-44s %9.4f %9.4f %9.2f\n", name, step * 1e3, judge * 1e3, step / judge);
+    double forecast = median(in_forecast, CALLS);
+    double plain = median(in_plain, CALLS);
+    printf("%-44s %8.4f %8.4f %7.2f %9.4f %7.2f %7.2f\n", name, judge * 1e3, step * 1e3, step / judge, forecast * 1e3,
+           forecast / judge, forecast / plain);
     return finished != 0;
 }
 
@@ -260,7 +300,7 @@ static void time_part(const char *name, uint32_t *card, uint32_t *batch, record_
 }
 
 static void heading(const char *cards) {
-    printf("\n%-44s %9s %9s %9s\n", cards, "step", "judge", "ratio");
+    printf("\n%-44s %8s %8s %7s %9s %7s %7s\n", cards, "judge", "step", "/judge", "forecast", "/judge", "/C");
 }
 
 static void time_one_term(uint32_t *card, uint32_t *batch) {
@@ -324,8 +364,8 @@ static void time_many_terms(uint32_t *card, uint32_t *batch) {
 int main(void) {
     uint32_t *card = words_for(CARD_WORDS);
     uint32_t *batch = words_for(BATCH_WORDS);
-    printf("step, 4,096 records, ms a call (median of %d)\n", CALLS);
-    printf("%-44s %9s %9s %9s\n", "batch, on 81 blocks of one term", "step", "judge", "ratio");
+    printf("step and forecast, 4,096 records, ms a call (median of %d)\n", CALLS);
+    heading("batch, on 81 blocks of one term");
     fill_one_term(card, BLOCKS, TERM, APART);
     time_made("removals, overlapping", card, batch, overlapping);
     time_made("removals, nested", card, batch, nested);
@@ -344,7 +384,7 @@ int main(void) {
     time_one_term(card, batch);
     time_many_terms(card, batch);
     fill_zipf(card, ORDINARY_BLOCKS);
-    heading("ordinary steps, on 403 blocks");
+    heading("ordinary batches, on 403 blocks");
     zipf_additions(card, ORDINARY_BLOCKS, batch);
     time_batch("Zipf additions", card, batch);
     zipf_annulments(card, ORDINARY_BLOCKS, batch);

@@ -134,28 +134,12 @@ static int make_pass(const struct card_file *card, const struct batch *batch) {
 
 /* ---- apply */
 
-/* Reads the batch of a file and gives the exit status. */
-typedef int batch_reader(struct batch *batch, const char *path);
-
-static int apply(char **words, batch_reader *read_batch) {
-    static struct batch batch;
-    struct card_file card;
-    int status = card_open(&card, words[0], true);
-    if (status != EXIT_DONE)
-        return status;
-    status = read_batch(&batch, words[1]);
-    if (status == EXIT_DONE)
-        status = make_pass(&card, &batch);
-    int closed = card_close(&card);
-    return status != EXIT_DONE ? status : closed;
-}
-
 int run_apply(char **words) {
-    return apply(words, batch_read);
+    return batch_on_card(words, true, batch_read, make_pass);
 }
 
 int run_apply_text(char **words) {
-    return apply(words, scores_read);
+    return batch_on_card(words, true, scores_read, make_pass);
 }
 
 /* ---- annul */

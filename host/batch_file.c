@@ -5,7 +5,6 @@
 #include <stdio.h>
 #include <string.h>
 
-#include "card_file.h"
 #include "report.h"
 #include "words.h"
 
@@ -56,4 +55,17 @@ int scores_read(struct batch *batch, const char *path) {
     size_t room = (size_t)GI_RECORD_WORDS * GI_BATCH_RECORDS_MAX;
     uint32_t number = gi_scores(bytes, length, batch->words, room, &batch->length, &line);
     return number == GI_DONE ? EXIT_DONE : refused_line(name_of(path), line, number);
+}
+
+int batch_on_card(char **words, bool writable, batch_reader *read_batch, batch_user *use) {
+    static struct batch batch;
+    struct card_file card;
+    int status = card_open(&card, words[0], writable);
+    if (status != EXIT_DONE)
+        return status;
+    status = read_batch(&batch, words[1]);
+    if (status == EXIT_DONE)
+        status = use(&card, &batch);
+    int closed = card_close(&card);
+    return status != EXIT_DONE ? status : closed;
 }

@@ -4,9 +4,11 @@
 #ifndef BATCH_FILE_H
 #define BATCH_FILE_H
 
+#include <stdbool.h>
 #include <stddef.h>
 #include <stdint.h>
 
+#include "card_file.h"
 #include "gameindex.h"
 
 enum {
@@ -28,5 +30,15 @@ int batch_read(struct batch *batch, const char *path);
 /* The same from a scorekeepers' file. Gives EXIT_REFUSED after showing which line the
  * library refuses, with its number. */
 int scores_read(struct batch *batch, const char *path);
+
+/* One of these two. */
+typedef int batch_reader(struct batch *batch, const char *path);
+
+/* What a command does with a card and a batch; it gives the exit status. */
+typedef int batch_user(const struct card_file *card, const struct batch *batch);
+
+/* Opens the card file of the first word, reads the batch of the second, has them used
+ * and closes the card. Gives the exit status. */
+int batch_on_card(char **words, bool writable, batch_reader *read_batch, batch_user *use);
 
 #endif

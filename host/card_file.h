@@ -9,7 +9,7 @@
 #include <stdint.h>
 
 /* The exit statuses of the host program. */
-enum { EXIT_DONE = 0, EXIT_REFUSED = 1, EXIT_FAULT = 2 };
+enum { EXIT_DONE = 0, EXIT_REFUSED = 1, EXIT_FAULT = 2, EXIT_NO_ROOM = 3 };
 
 /* An open card file and its words in memory. */
 struct card_file {

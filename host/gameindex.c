@@ -1,7 +1,8 @@
 /* gameindex: the host program of the game index, over libgameindex.a.
  *
  * Exit status: 0 done, 1 refused (the number is shown, or that a pass is open),
- * 2 a file, the output or the command line is at fault. */
+ * 2 a file, the output or the command line is at fault, 3 from fits alone: the
+ * batch does not fit. */
 #define _POSIX_C_SOURCE 200809L
 
 #include <errno.h>
@@ -15,6 +16,7 @@
 
 #include "apply.h"
 #include "card_file.h"
+#include "fits.h"
 #include "gameindex.h"
 #include "lookup.h"
 #include "report.h"
@@ -132,6 +134,8 @@ static const struct command commands[] = {
     {"apply", NULL, "CARD BATCH", 2, 0, "apply a file of batch words, or - for standard input", run_apply},
     {"apply", "--text", "--text CARD FILE", 2, 0, "apply a scorekeepers' file, or - for standard input",
      run_apply_text},
+    {"fits", NULL, "CARD BATCH", 2, 0, "say whether the card has room to apply a batch; write nothing", run_fits},
+    {"fits", "--text", "--text CARD FILE", 2, 0, "say the same of a scorekeepers' file", run_fits_text},
     {"annul", NULL, "CARD FROM TO", 3, 0, "remove a range of running numbers under every term", run_annul},
     {"annul", "--resume", "--resume CARD FROM TO", 3, 0, "go on with such an annulment that was cut short",
      run_annul_resume},
@@ -156,7 +160,7 @@ static void usage(FILE *out) {
             "removes\n");
     fprintf(out,
             "\nexit status: 0 done, 1 refused (the number is shown, or that a pass is open), 2 a fault of a file,\n"
-            "the output or the command line\n");
+            "the output or the command line; of fits, 0 the batch fits, 3 it does not: the card is too full\n");
 }
 
 /* Whether the first words are a command's name and, where it has one, its option. */

@@ -131,6 +131,19 @@ uint32_t gi_judge(const uint32_t *card, size_t card_len);
 uint32_t gi_step(uint32_t *card, size_t card_len, const uint32_t *batch, size_t batch_len, uint32_t *write,
                  uint32_t *freed, uint32_t *finished);
 
+/* Tells, without a write, what comes of applying a batch to the end with no cut:
+ * of gi_step called with this batch until it says finished or refuses. It takes a
+ * card with a pass open as well, and tells what comes of going on with this batch.
+ * blocks is G, the number of blocks that what remains fills; limit the steps within
+ * which the pass finishes, 3 times that, or 1 where nothing remains. finishes is 1
+ * where the pass finishes; writes is then 0. Where it is 0, some step is refused
+ * with 8, after writes configuration writes.
+ *
+ * Gives the judge's number for a card that is not sound; then 6, then 7 for a batch
+ * that is wrong. After such a refusal all four are 0. Otherwise gives 0. */
+uint32_t gi_forecast(const uint32_t *card, size_t card_len, const uint32_t *batch, size_t batch_len, uint32_t *blocks,
+                     uint32_t *limit, uint32_t *finishes, uint32_t *writes);
+
 /* For the card that a step left and the write that this step named, tells where
  * the write stands: in the count words from card[start] on, and in no other word
  * has the step changed the card. These are the B words of the due place for write

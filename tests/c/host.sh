@@ -300,6 +300,8 @@ check 'the run that waited goes on' wait "$waiting"
 . "$here/host_text.sh"
 # shellcheck source=tests/c/host_annul.sh
 . "$here/host_annul.sh"
+# shellcheck source=tests/c/host_fits.sh
+. "$here/host_fits.sh"
 
 # faults of files and of the command line go to stderr
 run 2 'judge a file that is not there' judge none.card
@@ -337,7 +339,7 @@ faulty_page 'a page of three bytes' odd.card 5
 run 2 'an unknown command' frobnicate new.card
 run 2 'no command'
 run 0 'help' help
-check 'nine commands, in columns' [ "$(grep -Ec '^  [a-z ]{7} ([][A-Z ]{21}|--text [A-Z ]{14}|--resume [A-Z ]{12}) [a-z]' out)" -eq 9 ]
+check 'eleven commands, in columns' [ "$(grep -Ec '^  [a-z ]{7} ([][A-Z ]{21}|--text [A-Z ]{14}|--resume [A-Z ]{12}) [a-z]' out)" -eq 11 ]
 
 echo "$passed passed, $failed failed"
 [ "$failed" -eq 0 ]

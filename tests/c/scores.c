@@ -4,9 +4,8 @@
 
 enum { MOST_WORDS = GI_RECORD_WORDS * GI_BATCH_RECORDS_MAX, GUARDS = 16 };
 
-/* A text with its length, and the words of a batch with their number. */
+/* A text with its length, and no words of a batch. */
 #define TEXT(text) (const uint8_t *)(text), sizeof(text) - 1
-#define BATCH(...) (const uint32_t[]){__VA_ARGS__}, sizeof((const uint32_t[]){__VA_ARGS__}) / sizeof(uint32_t)
 #define NO_BATCH NULL, 0
 
 /* What a word lent or around those lent holds before the call: each another. */

@@ -16,6 +16,7 @@ extern int failed;
 /* The tests, by the functions that they call. */
 void test_format_judge(void);
 void test_step(void);
+void test_forecast(void);
 void test_lookup(void);
 void test_page(void);
 void test_scores(void);
@@ -126,12 +127,27 @@ static inline struct card three_blocks(void) {
     return WITH(WITH(card, 3, 6, 6, 7, 8, 9, 10, 11, 12), 0, 6, 1, 13, 9, 1, 1, 0, 0);
 }
 
+/* One place free, each of the old blocks at 2, 3 and 0 full of one term. */
+static inline struct card full(void) {
+    struct card card = WITH(CARD(1, 8, 4, 2, 3, 0, 0, 0), 2, 1, 6, 10, 20, 30, 40, 50, 60);
+    return WITH(WITH(card, 3, 2, 6, 1, 2, 3, 4, 5, 6), 0, 3, 6, 1, 2, 3, 4, 5, 6);
+}
+
 /* Judges a card, and sees that judging changed none of its words. */
 static inline void judged(struct card card, uint32_t expected, const char *group, const char *what) {
     struct card before = card;
     check_number(gi_judge(card.words, WORDS), expected, group, what);
     check(memcmp(card.words, before.words, sizeof before.words) == 0, group, "the judge wrote nothing");
 }
+
+/* ---- batches */
+
+/* A batch as two arguments: its words and their number. */
+#define BATCH(...) (const uint32_t[]){__VA_ARGS__}, sizeof((uint32_t[]){__VA_ARGS__}) / sizeof(uint32_t)
+#define NO_RECORDS (const uint32_t[]){UNUSED}, 0
+#define ADD(term, position) GI_RECORD_ADD, term, position, position
+#define REMOVE(term, from, to) GI_RECORD_REMOVE, term, from, to
+#define ANNUL(from, to) GI_RECORD_ANNUL, 0, from, to
 
 /* ---- the largest card */
 

@@ -11,13 +11,6 @@ struct answer {
     uint32_t finished;
 };
 
-/* A batch as two arguments: its words and their number. */
-#define BATCH(...) (const uint32_t[]){__VA_ARGS__}, sizeof((uint32_t[]){__VA_ARGS__}) / sizeof(uint32_t)
-#define NO_RECORDS (const uint32_t[]){UNUSED}, 0
-#define ADD(term, position) GI_RECORD_ADD, term, position, position
-#define REMOVE(term, from, to) GI_RECORD_REMOVE, term, from, to
-#define ANNUL(from, to) GI_RECORD_ANNUL, 0, from, to
-
 /* Sees that a write stands at count words from start on in a card. */
 static void span_is(const uint32_t *card, size_t length, uint32_t write, uint32_t number, size_t start, size_t count,
                     const char *group, const char *what) {
@@ -457,12 +450,6 @@ static void largest(void) {
 }
 
 /* ---- refusals */
-
-/* A card with one place free, each block full of one term. */
-static struct card full(void) {
-    struct card card = WITH(CARD(1, 8, 4, 2, 3, 0, 0, 0), 2, 1, 6, 10, 20, 30, 40, 50, 60);
-    return WITH(WITH(card, 3, 2, 6, 1, 2, 3, 4, 5, 6), 0, 3, 6, 1, 2, 3, 4, 5, 6);
-}
 
 static void wrong_records(void) {
     const char *group = "number 6";

@@ -9,6 +9,7 @@ int failed;
 int main(void) {
     test_format_judge();
     test_step();
+    test_forecast();
     test_lookup();
     test_page();
     test_scores();

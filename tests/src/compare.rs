@@ -3,8 +3,11 @@
 use crate::batches;
 use crate::ffi;
 use crate::random::Random;
+use crate::second::batch::ADD;
 use crate::second::page::{page_bytes, LINE_BYTES, LINE_POSITIONS};
-use crate::second::{self, Configuration, LookupAnswer, PageAnswer, ScoresAnswer, StepAnswer};
+use crate::second::{
+    self, Configuration, ForecastAnswer, LookupAnswer, PageAnswer, ScoresAnswer, StepAnswer,
+};
 
 /// How often each number came out of a test's comparisons.
 #[derive(Clone, Debug, Default)]
@@ -60,6 +63,18 @@ fn shown(card: &[u32]) -> String {
     } else {
         format!("{:?} and {} words more", &card[..most], card.len() - most)
     }
+}
+
+/// What a call of card and batch is about, for a failure's message.
+fn shown_call(card: &[u32], batch: &[u32], about: &dyn Fn() -> String) -> String {
+    format!(
+        "{}; a card of {} words: {}; a batch of {} words: {}",
+        about(),
+        card.len(),
+        shown(card),
+        batch.len(),
+        shown(batch)
+    )
 }
 
 /// Both judges give the same number. The card is lent and must keep its words.
@@ -313,16 +328,7 @@ pub fn step(
     let mut lent = Guarded::new(card);
     let mut lent_batch = Guarded::new(batch);
     let answer = ffi::step(lent.inside(), lent_batch.inside());
-    let message = || {
-        format!(
-            "{}; a card of {} words: {}; a batch of {} words: {}",
-            about(),
-            card.len(),
-            shown(card),
-            batch.len(),
-            shown(batch)
-        )
-    };
+    let message = || shown_call(card, batch, about);
     assert_eq!(
         answer,
         expected,
@@ -426,6 +432,232 @@ pub fn pass_seen(
         }
     }
     unreachable!()
+}
+
+/// What the compared forecasts met: how often each number, outcome and shape came.
+#[derive(Clone, Debug, Default)]
+pub struct Forecasts {
+    numbers: Tally,
+    pub finishing: u64,
+    pub nothing_remains: u64,
+    pub stopping: u64,
+    pub stopping_at_once: u64,
+    pub stopping_later: u64,
+    pub stopping_at_the_last_block: u64,
+    pub in_mid_pass: u64,
+    pub stopping_in_mid_pass: u64,
+    pub with_one_free: u64,
+    pub finishing_with_one_free: u64,
+    pub stopping_with_two_free: u64,
+    pub removals_alone: u64,
+    pub stopping_with_removals_alone: u64,
+    pub annulling: u64,
+    pub with_empty_ranges: u64,
+    pub runs: u64,
+    pub steps: u64,
+    pub runs_at_the_limit: u64,
+}
+
+impl Forecasts {
+    pub fn new() -> Forecasts {
+        Forecasts::default()
+    }
+
+    pub fn of(&self, number: u32) -> u64 {
+        self.numbers.of(number)
+    }
+
+    pub fn total(&self) -> u64 {
+        self.numbers.total()
+    }
+
+    /// Prints the test's lines.
+    pub fn report(&self, test: &str) {
+        self.numbers.report(test);
+        println!("{test}: {self:?}");
+    }
+
+    /// Fails unless each of these numbers came at least `least` times.
+    pub fn expect(&self, numbers: &[u32], least: u64) {
+        self.numbers.expect(numbers, least);
+    }
+
+    /// Fails unless every outcome and every shape came at least `least` times.
+    pub fn expect_every_shape(&self, least: u64) {
+        for count in [
+            self.finishing,
+            self.nothing_remains,
+            self.stopping,
+            self.stopping_at_once,
+            self.stopping_later,
+            self.stopping_at_the_last_block,
+            self.in_mid_pass,
+            self.stopping_in_mid_pass,
+            self.with_one_free,
+            self.finishing_with_one_free,
+            self.stopping_with_two_free,
+            self.removals_alone,
+            self.stopping_with_removals_alone,
+            self.annulling,
+            self.with_empty_ranges,
+            self.runs_at_the_limit,
+        ] {
+            assert!(count >= least, "a shape came {count} times: {self:?}");
+        }
+    }
+
+    fn note(&mut self, card: &[u32], batch: &[u32], answer: &ForecastAnswer) {
+        self.numbers.note(answer.number);
+        if answer.number != 0 {
+            return;
+        }
+        let configuration = Configuration::read(card);
+        let free = configuration.free_places().len();
+        let open = configuration.new_length > 0;
+        let stops = !answer.finishes;
+        self.finishing += u64::from(answer.finishes);
+        self.nothing_remains += u64::from(answer.blocks == 0);
+        self.stopping += u64::from(stops);
+        self.stopping_at_once += u64::from(stops && answer.writes == 0);
+        self.stopping_later += u64::from(stops && answer.writes > 1);
+        let last = stops && answer.writes + 1 == answer.blocks;
+        self.stopping_at_the_last_block += u64::from(last);
+        self.in_mid_pass += u64::from(open);
+        self.stopping_in_mid_pass += u64::from(open && stops);
+        self.with_one_free += u64::from(free == 1);
+        let through = answer.finishes && answer.blocks > 1;
+        self.finishing_with_one_free += u64::from(free == 1 && through);
+        self.stopping_with_two_free += u64::from(free == 2 && stops);
+        let mut kinds = batch.iter().step_by(second::batch::RECORD_WORDS);
+        let removals = !batch.is_empty() && !kinds.any(|&kind| kind == ADD);
+        self.removals_alone += u64::from(removals);
+        self.stopping_with_removals_alone += u64::from(removals && stops);
+        self.annulling += u64::from(batches::annuls(batch));
+        self.with_empty_ranges += u64::from(batches::has_empty_range(batch));
+    }
+}
+
+/// The forecast of a pass that will finish, for what remains filling `blocks` blocks.
+pub fn finishing(blocks: u32) -> ForecastAnswer {
+    ForecastAnswer {
+        number: 0,
+        blocks,
+        limit: second::step_limit(blocks),
+        finishes: true,
+        writes: 0,
+    }
+}
+
+/// The forecast of a pass that will be stopped by 8 after so many configuration writes.
+pub fn stopping(blocks: u32, writes: u32) -> ForecastAnswer {
+    ForecastAnswer {
+        finishes: false,
+        writes,
+        ..finishing(blocks)
+    }
+}
+
+/// The answer of a refused forecast.
+pub fn no_forecast(number: u32) -> ForecastAnswer {
+    ForecastAnswer {
+        number,
+        blocks: 0,
+        limit: 0,
+        finishes: false,
+        writes: 0,
+    }
+}
+
+/// What else may stand in the words of the figures before a forecast.
+const FIGURES_BEFORE: [[u32; 4]; 4] = [
+    [0, 0, 0, 0],
+    [1, 1, 1, 1],
+    [0, 1, 1, 0],
+    [u32::MAX, 3, 0, u32::MAX],
+];
+
+/// Both forecasts give the same number and the same figures, whatever the figures' words held; card,
+/// batch and the words around them stay.
+pub fn forecast(
+    forecasts: &mut Forecasts,
+    card: &[u32],
+    batch: &[u32],
+    about: &dyn Fn() -> String,
+) -> ForecastAnswer {
+    let expected = second::forecast(card, batch);
+    let mut lent = Guarded::new(card);
+    let mut lent_batch = Guarded::new(batch);
+    let answer = ffi::forecast(lent.inside(), lent_batch.inside());
+    let message = || shown_call(card, batch, about);
+    assert_eq!(
+        answer,
+        expected,
+        "forecast gave the left, the second program the right; {}",
+        message()
+    );
+    if answer.number != 0 {
+        let refusal = no_forecast(answer.number);
+        assert_eq!(answer, refusal, "figures of a refusal; {}", message());
+    }
+    let words = FIGURES_BEFORE[forecasts.total() as usize % FIGURES_BEFORE.len()];
+    assert_eq!(
+        ffi::forecast_over(lent.inside(), lent_batch.inside(), words),
+        answer,
+        "the forecast over {words:?}; {}",
+        message()
+    );
+    let card_kept = lent.inside() == card && lent.guards_stand();
+    assert!(card_kept, "forecast changed its card; {}", message());
+    let batch_kept = lent_batch.inside() == batch && lent_batch.guards_stand();
+    assert!(batch_kept, "forecast changed its batch; {}", message());
+    forecasts.note(card, batch, &answer);
+    answer
+}
+
+/// The forecast, compared, and beside it the library's own run with the same batch to the end, for a
+/// sound card and a batch judged 0. The run finishes within the limit, or stops with 8 after as many
+/// configuration writes as the forecast says. After each step that does not finish, the forecast says
+/// the same of what is left of the run. Gives the first forecast.
+pub fn forecast_run(
+    forecasts: &mut Forecasts,
+    card: &[u32],
+    batch: &[u32],
+    about: &dyn Fn() -> String,
+) -> ForecastAnswer {
+    let first = forecast(forecasts, card, batch, about);
+    let message = || shown_call(card, batch, about);
+    assert_eq!(first.number, 0, "no run to compare; {}", message());
+    let mut run = card.to_vec();
+    let mut writes = 0;
+    for taken in 1.. {
+        let answer = ffi::step(&mut run, batch);
+        if answer.number != 0 {
+            assert_eq!(answer.number, 8, "step {taken}; {}", message());
+            assert!(!first.finishes, "stopped at step {taken}; {}", message());
+            assert_eq!(writes, first.writes, "writes before 8; {}", message());
+            break;
+        }
+        assert!(taken <= first.limit, "beyond the limit; {}", message());
+        forecasts.steps += 1;
+        writes += u32::from(answer.write == 3);
+        if answer.finished {
+            assert!(first.finishes, "finished at step {taken}; {}", message());
+            assert_eq!(writes, first.blocks.max(1), "all writes; {}", message());
+            forecasts.runs_at_the_limit += u64::from(taken == first.limit);
+            break;
+        }
+        let expected = if first.finishes {
+            finishing(first.blocks - writes)
+        } else {
+            assert!(writes <= first.writes, "write {writes}; {}", message());
+            stopping(first.blocks - writes, first.writes - writes)
+        };
+        let next = ffi::forecast(&run, batch);
+        assert_eq!(next, expected, "after step {taken}; {}", message());
+        forecasts.numbers.note(0);
+    }
+    forecasts.runs += 1;
+    first
 }
 
 /// A term, from and to.

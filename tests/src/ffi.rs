@@ -3,7 +3,7 @@
 use std::ops::Range;
 
 use crate::lists::Program;
-use crate::second::{LookupAnswer, PageAnswer, ScoresAnswer, StepAnswer};
+use crate::second::{ForecastAnswer, LookupAnswer, PageAnswer, ScoresAnswer, StepAnswer};
 
 /// What stands in a count's word before the call, so that a word left unwritten is seen.
 const UNWRITTEN: u32 = 0xA5A5_A5A5;
@@ -27,6 +27,16 @@ mod c {
             write: u32,
             start: *mut usize,
             count: *mut usize,
+        ) -> u32;
+        pub fn gi_forecast(
+            card: *const u32,
+            card_len: usize,
+            batch: *const u32,
+            batch_len: usize,
+            blocks: *mut u32,
+            limit: *mut u32,
+            finishes: *mut u32,
+            writes: *mut u32,
         ) -> u32;
         pub fn gi_lookup(
             card: *const u32,
@@ -132,6 +142,37 @@ pub fn write_span(card: &[u32], write: u32) -> (u32, Range<usize>) {
     let number =
         unsafe { c::gi_write_span(card.as_ptr(), card.len(), write, &mut start, &mut count) };
     (number, start..start + count)
+}
+
+pub fn forecast(card: &[u32], batch: &[u32]) -> ForecastAnswer {
+    forecast_over(card, batch, [UNWRITTEN; 4])
+}
+
+/// The forecast over these words: what stands where blocks, limit, finishes and writes go.
+pub fn forecast_over(card: &[u32], batch: &[u32], words: [u32; 4]) -> ForecastAnswer {
+    let [mut blocks, mut limit, mut finishes, mut writes] = words;
+    // SAFETY: each pointer and length are those of one slice lent for reading, and the figures are
+    // words of this call.
+    let number = unsafe {
+        c::gi_forecast(
+            card.as_ptr(),
+            card.len(),
+            batch.as_ptr(),
+            batch.len(),
+            &mut blocks,
+            &mut limit,
+            &mut finishes,
+            &mut writes,
+        )
+    };
+    assert!(finishes <= 1, "finishes is {finishes}, neither 0 nor 1");
+    ForecastAnswer {
+        number,
+        blocks,
+        limit,
+        finishes: finishes == 1,
+        writes,
+    }
 }
 
 pub fn lookup(card: &[u32], term: u32, from: u32, to: u32, answer: &mut [u32]) -> LookupAnswer {

@@ -97,6 +97,11 @@ impl<'a, P: Program> List<'a, P> {
         &self.card
     }
 
+    /// The batch being worked in.
+    pub fn batch(&self) -> &[u32] {
+        &self.batch
+    }
+
     /// Makes one call chosen at random and checks everything the paper says of it.
     pub fn call(&mut self, random: &mut Random, figures: &mut Figures) {
         figures.calls += 1;

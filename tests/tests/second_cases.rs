@@ -1,5 +1,5 @@
 // The second program by itself: the paper's cases P1 to P8, a table of judgements, lists of calls
-// against the history, and pages and scorekeepers' files written out by hand.
+// against the history, and pages, scorekeepers' files and forecasts written out by hand.
 
 use std::collections::BTreeSet;
 
@@ -8,12 +8,14 @@ use gameindex_tests::batches::{
     EMPTY_RANGES_IN_ORDER, WRONG_ANNULMENTS, WRONG_EMPTY_RANGES,
 };
 use gameindex_tests::cards;
-use gameindex_tests::compare::{done, refused};
+use gameindex_tests::compare::{done, no_forecast, refused};
 use gameindex_tests::lists::{self, Figures, List, Second};
 use gameindex_tests::random::Random;
 use gameindex_tests::second::page::page_bytes;
 use gameindex_tests::second::scores::{self, Outcome, ScoresAnswer};
-use gameindex_tests::second::{self, block, Configuration, History, Pair, HIGHEST, LOWEST};
+use gameindex_tests::second::{
+    self, block, Configuration, ForecastAnswer, History, Pair, HIGHEST, LOWEST,
+};
 
 fn zeros(n: u32) -> Vec<u32> {
     let mut card = vec![0; cards::right_length(8, n)];
@@ -1395,4 +1397,412 @@ fn passes_of_files() {
     }
     assert_eq!(scores::outcome(b"A\t5\t2"), Outcome::Steps(3));
     assert_eq!(scores::outcome(b"A\t5\t0"), Outcome::Number(6));
+}
+
+/// A forecast by its figures: G, the step limit, and what comes of it.
+fn finishes(blocks: u32, limit: u32) -> ForecastAnswer {
+    ForecastAnswer {
+        number: 0,
+        blocks,
+        limit,
+        finishes: true,
+        writes: 0,
+    }
+}
+
+fn stops(blocks: u32, limit: u32, writes: u32) -> ForecastAnswer {
+    ForecastAnswer {
+        finishes: false,
+        writes,
+        ..finishes(blocks, limit)
+    }
+}
+
+/// Each batch has its forecast on this card, and the second program's run agrees with it.
+fn forecasts(card: &[u32], cases: &[(&[u32], ForecastAnswer)]) {
+    for (batch, expected) in cases {
+        assert_eq!(second::forecast(card, batch), *expected, "{batch:?}");
+        forecast_agrees(card, batch);
+    }
+}
+
+/// The second program's forecast against its own run to the end.
+fn forecast_agrees(card: &[u32], batch: &[u32]) -> ForecastAnswer {
+    let forecast = second::forecast(card, batch);
+    assert_eq!(forecast.number, 0);
+    assert_eq!(forecast.blocks, second::blocks_filled(card, batch));
+    let mut card = card.to_vec();
+    let mut writes = 0;
+    for taken in 1..=forecast.limit {
+        let answer = second::step(&mut card, batch);
+        if answer.number != 0 {
+            assert_eq!((answer.number, forecast.finishes), (8, false));
+            assert_eq!(writes, forecast.writes);
+            return forecast;
+        }
+        writes += u32::from(answer.write == 3);
+        if answer.finished {
+            assert!(forecast.finishes && taken <= forecast.limit);
+            assert_eq!(writes, forecast.blocks.max(1));
+            return forecast;
+        }
+    }
+    panic!("a run beyond the limit");
+}
+
+#[test]
+fn forecasts_of_p1_to_p6() {
+    // P1 on zeros; nothing to do there.
+    forecasts(
+        &zeros(4),
+        &[
+            (&p1_batch(), finishes(1, 3)),
+            (&[], finishes(0, 1)),
+            (&[2, 5, 1, 9], finishes(0, 1)),
+        ],
+    );
+    let both = [2, 5, 1, u32::MAX, 2, 7, 1, u32::MAX];
+    forecasts(
+        &p1(4),
+        &[
+            (&[], finishes(1, 3)),
+            // P2 fills the block, and a position more is one too many; P3.
+            (&[1, 7, 11, 11], finishes(1, 3)),
+            (&[1, 7, 11, 11, 1, 7, 12, 12], finishes(2, 6)),
+            (&[1, 8, 1, 1], finishes(2, 6)),
+            // P5 and P6.
+            (&[2, 5, 2, 9, 1, 5, 9, 9], finishes(1, 3)),
+            (&both, finishes(0, 1)),
+            (&[3, 0, 2, 9], finishes(0, 1)),
+            // Blocks 5 2 2 9 7 1 4 and then two terms each: three places can be filled.
+            (
+                &[1, 8, 1, 1, 1, 9, 1, 1, 1, 10, 1, 1, 1, 11, 1, 1],
+                finishes(3, 9),
+            ),
+            (
+                &[
+                    1, 8, 1, 1, 1, 9, 1, 1, 1, 10, 1, 1, 1, 11, 1, 1, 1, 12, 1, 1,
+                ],
+                stops(4, 12, 3),
+            ),
+        ],
+    );
+    // P3 after its first configuration write.
+    let mut card = p1(4);
+    assert_eq!(cards::run(&mut card, &[1, 8, 1, 1], 3), 0);
+    assert_eq!(card[..8], [1, 8, 4, 1, 0, 1, 7, 4]);
+    forecasts(&card, &[(&[1, 8, 1, 1], finishes(1, 3))]);
+    // P4, from the start and where it stopped.
+    forecasts(
+        &p1(2),
+        &[(&[1, 8, 1, 1], stops(2, 6, 1)), (&[], finishes(1, 3))],
+    );
+    let mut card = p1(2);
+    assert_eq!(cards::run(&mut card, &[1, 8, 1, 1], 4), 8);
+    assert_eq!(card[..8], [1, 8, 2, 1, 0, 1, 7, 4]);
+    forecasts(
+        &card,
+        &[
+            (&[1, 8, 1, 1], stops(1, 3, 0)),
+            (&[], finishes(0, 1)),
+            // Up to the boundary nothing is done.
+            (&[1, 5, 1, 1, 1, 7, 4, 4], finishes(0, 1)),
+            (&both, finishes(0, 1)),
+        ],
+    );
+    // P3 with N 3: both blocks have a place.
+    forecasts(&p1(3), &[(&[1, 8, 1, 1], finishes(2, 6))]);
+}
+
+/// Three blocks, each exactly full of one term: (1,10) to (1,60), (2,1) to (2,6), (3,1) to (3,6).
+fn three_full_blocks(n: u32) -> Vec<u32> {
+    let blocks = [
+        (1..=6).map(|i| (1, i * 10)).collect(),
+        (1..=6).map(|i| (2, i)).collect(),
+        (1..=6).map(|i| (3, i)).collect(),
+    ];
+    let memory = vec![9; cards::right_length(8, n)];
+    let card = cards::laid_out(memory, 8, n, 2, &blocks, &[]);
+    assert_eq!(second::judge(&card), 0);
+    card
+}
+
+/// One place is free. A due block that ends below an old block's last pair leaves that block its
+/// place, also where the batch removes this pair.
+#[test]
+fn forecasts_with_one_place_free() {
+    forecasts(
+        &three_full_blocks(4),
+        &[
+            // Each due block is an old block and frees it.
+            (&[], finishes(3, 9)),
+            // (1,10) to (1,50): the first block still holds its place for (1,60).
+            (&[2, 1, 60, 60], stops(3, 9, 0)),
+            (&[3, 0, 60, 60], stops(3, 9, 0)),
+            // The first block is freed, then the second holds its place for (2,6).
+            (&[2, 2, 6, 6], stops(3, 9, 1)),
+            (&[3, 0, 6, 6], stops(3, 9, 1)),
+            // At the end all are freed.
+            (&[2, 3, 6, 6], finishes(3, 9)),
+            // What is removed is not the last pair.
+            (&[2, 1, 10, 10], finishes(3, 9)),
+            // 2 1 6 3 3 1 2 3, then 3 3 4 5 6.
+            (&[2, 2, 1, 5], finishes(3, 9)),
+            // One block wholly: the next due block frees two.
+            (&[2, 1, 1, 60], finishes(2, 6)),
+            (&[2, 2, 1, 6], finishes(2, 6)),
+            // (1,10) and (1,20) leave room for (2,1), above (1,60).
+            (&[2, 1, 30, 60], finishes(3, 9)),
+            // The last pair goes and another comes, above it or below.
+            (&[2, 1, 60, 60, 1, 1, 70, 70], finishes(3, 9)),
+            (&[1, 1, 55, 55, 2, 1, 60, 60], stops(3, 9, 0)),
+            (&[2, 1, 60, 60, 1, 1, 60, 60], finishes(3, 9)),
+            (&[3, 0, 60, 60, 1, 1, 60, 60], finishes(3, 9)),
+            // One pair more: 1 7 10 .. 60 15 does not fit. Then 1 1 60 2 3 1 2 3, then
+            // 2 3 4 5 6 3 1 1, then 3 5 2 3 4 5 6.
+            (&[1, 1, 15, 15], stops(4, 12, 0)),
+            // 1 6 10 .. 60 frees its block; 1 1 70 2 3 1 2 3 does not free (2,6).
+            (&[1, 1, 70, 70], stops(4, 12, 1)),
+            // The fourth block has no place.
+            (&[1, 4, 1, 1], stops(4, 12, 3)),
+            (&[2, 3, 5, 6, 1, 4, 1, 1], stops(4, 12, 2)),
+            (&[2, 3, 4, 6, 1, 4, 1, 1], finishes(3, 9)),
+            // A range with no position, and a pair that is there.
+            (&[2, 1, 60, 50], finishes(3, 9)),
+            (&[1, 1, 60, 60, 1, 1, 60, 60], finishes(3, 9)),
+        ],
+    );
+}
+
+/// The same blocks with two places free.
+#[test]
+fn forecasts_with_two_places_free() {
+    forecasts(
+        &three_full_blocks(5),
+        &[
+            (&[], finishes(3, 9)),
+            (&[2, 1, 60, 60], finishes(3, 9)),
+            (&[3, 0, 60, 60], finishes(3, 9)),
+            (&[2, 1, 60, 60, 2, 2, 6, 6], finishes(3, 9)),
+            (&[1, 1, 15, 15], finishes(4, 12)),
+            // Eight of term 1: 1 6 1 2 10 .. 40, then 1 2 50 60 2 2 1 2, 2 4 3 .. 6, 3 6 1 .. 6.
+            (&[1, 1, 1, 1, 1, 1, 2, 2], finishes(4, 12)),
+            (&[1, 1, 70, 70], finishes(4, 12)),
+            (&[1, 4, 1, 1], finishes(4, 12)),
+            // 3 5 2 .. 6 is the fourth block, (4,1) the fifth.
+            (&[1, 1, 15, 15, 1, 4, 1, 1], stops(5, 15, 4)),
+            // Nine below (1,10): 1 6 1 .. 6 and 1 6 7 8 9 10 20 30 free nothing. Then
+            // 1 3 40 50 60 2 1 1, 2 5 2 .. 6 and 3 6 1 .. 6.
+            (
+                &(1..=9).flat_map(|i| [1, 1, i, i]).collect::<Vec<u32>>(),
+                stops(5, 15, 1),
+            ),
+        ],
+    );
+}
+
+/// Places 3 and 0 are old, 1 is new, the boundary is (5,4): what remains is of (5,9), (7,4), (7,5),
+/// (9,1).
+#[test]
+fn forecasts_of_an_open_pass() {
+    let top = u32::MAX;
+    forecasts(
+        &judged_example(),
+        &[
+            // 5 1 9 7 2 4 5 frees the first old block; then 9 1 1.
+            (&[], finishes(2, 6)),
+            // Up to the boundary nothing is done.
+            (&[1, 5, 1, 1, 1, 5, 4, 4], finishes(2, 6)),
+            (&[2, 3, 1, top, 2, 5, 1, 4], finishes(2, 6)),
+            // 5 2 5 9 7 2 4 5 is full.
+            (&[1, 5, 5, 5], finishes(2, 6)),
+            // 5 3 5 6 9 7 1 4 frees the first old block, whose last pair it ends with.
+            (&[1, 5, 5, 5, 1, 5, 6, 6], finishes(2, 6)),
+            // 5 4 5 6 7 9 does not.
+            (&[1, 5, 5, 5, 1, 5, 6, 6, 1, 5, 7, 7], stops(2, 6, 0)),
+            // The same with (7,4) removed: it still stands in the old block.
+            (
+                &[1, 5, 5, 5, 1, 5, 6, 6, 1, 5, 7, 7, 2, 7, 4, 4],
+                stops(2, 6, 0),
+            ),
+            // 5 1 9 7 1 5 ends above (7,4).
+            (&[2, 7, 4, 4], finishes(2, 6)),
+            // 5 1 9 9 1 1.
+            (&[2, 7, 4, 5], finishes(1, 3)),
+            (&[2, 9, 1, 1], finishes(1, 3)),
+            (&[3, 0, 1, 1, 3, 0, 9, 9], finishes(1, 3)),
+            (&[3, 0, 1, top], finishes(0, 1)),
+            (&[3, 0, 1, top, 1, 5, 4, 4], finishes(0, 1)),
+            (&[3, 0, 1, top, 1, 5, 9, 9], finishes(1, 3)),
+            // 5 1 9 7 2 4 5, then 9 6 1 .. 6, then 9 1 7: with the new block one too many.
+            (
+                &(2..=7).flat_map(|i| [1, 9, i, i]).collect::<Vec<u32>>(),
+                stops(3, 9, 2),
+            ),
+            (
+                &(2..=6).flat_map(|i| [1, 9, i, i]).collect::<Vec<u32>>(),
+                finishes(2, 6),
+            ),
+        ],
+    );
+    // No old block is left, and three new ones: a due block has no place.
+    let new = [vec![(1, 1)], vec![(2, 1)], vec![(3, 1)]];
+    let card = cards::laid_out(vec![9; 48], 8, 4, 1, &[], &new);
+    forecasts(
+        &card,
+        &[
+            (&[], finishes(0, 1)),
+            (&[1, 2, 9, 9, 1, 3, 1, 1], finishes(0, 1)),
+            (&[1, 4, 1, 1], stops(1, 3, 0)),
+            (&[1, 3, 2, 2, 2, 3, 2, 2], stops(1, 3, 0)),
+            (&[2, 3, 1, 9], finishes(0, 1)),
+        ],
+    );
+}
+
+/// Old blocks of one pair each: a due block may free two of them, one or none.
+#[test]
+fn forecasts_of_several_places_freed() {
+    let old = [vec![(2, 1)], vec![(3, 1)], vec![(4, 1)]];
+    let card = cards::laid_out(vec![9; 48], 8, 4, 3, &old, &[]);
+    let term_1 = |count: u32| -> Vec<u32> { (1..=count).flat_map(|i| [1, 1, i, i]).collect() };
+    forecasts(
+        &card,
+        &[
+            (&[], finishes(2, 6)),
+            // 1 1 1 2 1 1, then 3 1 1 4 1 1.
+            (&term_1(1), finishes(2, 6)),
+            // 1 3 1 2 3 2 1 1.
+            (&term_1(3), finishes(2, 6)),
+            // 1 4 1 2 3 4 frees nothing; two blocks more.
+            (&term_1(4), stops(3, 9, 0)),
+            // 1 6 1 .. 6, then 1 1 7 2 1 1, then 3 1 1 4 1 1.
+            (&term_1(7), stops(3, 9, 0)),
+            (&[1, 2, 2, 2, 1, 2, 3, 3], finishes(2, 6)),
+            // 2 4 1 2 3 4 frees one; then 3 1 1 4 1 1.
+            (&[1, 2, 2, 2, 1, 2, 3, 3, 1, 2, 4, 4], finishes(2, 6)),
+            (&[2, 3, 1, 1], finishes(1, 3)),
+        ],
+    );
+}
+
+/// A term that goes on in the next block costs three words there again.
+#[test]
+fn forecasts_by_how_many_fit() {
+    let fresh = |b: u32, n: u32| {
+        let mut card = vec![5; cards::right_length(b, n)];
+        assert_eq!(second::format(&mut card, b, n), 0);
+        card
+    };
+    let one_term = |count: u32| -> Vec<u32> { (1..=count).flat_map(|i| [1, 6, i, i]).collect() };
+    let many_terms = |count: u32| -> Vec<u32> { (1..=count).flat_map(|i| [1, i, 6, 6]).collect() };
+    forecasts(
+        &fresh(8, 3),
+        &[
+            (&one_term(6), finishes(1, 3)),
+            (&one_term(7), finishes(2, 6)),
+            (&one_term(12), finishes(2, 6)),
+            (&one_term(13), stops(3, 9, 2)),
+            (&one_term(18), stops(3, 9, 2)),
+            (&one_term(19), stops(4, 12, 2)),
+            (&many_terms(2), finishes(1, 3)),
+            (&many_terms(3), finishes(2, 6)),
+            (&many_terms(4), finishes(2, 6)),
+            (&many_terms(5), stops(3, 9, 2)),
+            // 6 1 1 .. and the same pair again and again.
+            (&[1, 6, 1, 1].repeat(4096), finishes(1, 3)),
+        ],
+    );
+    forecasts(
+        &fresh(9, 3),
+        &[
+            (&one_term(14), finishes(2, 6)),
+            (&one_term(15), stops(3, 9, 2)),
+            (&many_terms(6), finishes(2, 6)),
+            (&many_terms(7), stops(3, 9, 2)),
+        ],
+    );
+    forecasts(
+        &fresh(1024, 5),
+        &[
+            (&one_term(1022), finishes(1, 3)),
+            (&one_term(1023), finishes(2, 6)),
+            (&one_term(4088), finishes(4, 12)),
+            (&one_term(4089), stops(5, 15, 4)),
+            (&many_terms(1364), finishes(4, 12)),
+            (&many_terms(1365), stops(5, 15, 4)),
+            (&many_terms(4096), stops(13, 39, 4)),
+        ],
+    );
+    forecasts(&fresh(1024, 14), &[(&many_terms(4096), finishes(13, 39))]);
+    let most = fresh(8, 1024);
+    for (count, expected) in [
+        (2046, finishes(1023, 3069)),
+        (2047, stops(1024, 3072, 1023)),
+        (4096, stops(2048, 6144, 1023)),
+    ] {
+        assert_eq!(second::forecast(&most, &many_terms(count)), expected);
+    }
+}
+
+/// 1 to 4 for the card, then 6, then 7; 8 is none of them.
+#[test]
+fn numbers_of_the_forecast() {
+    let card = p1(2);
+    let good: &[u32] = &[1, 8, 1, 1];
+    let form: &[u32] = &[1, 8, 1, 1, 1, 7, 0, 0];
+    let order: &[u32] = &[1, 8, 1, 1, 1, 7, 1, 1];
+    assert_eq!(second::forecast(&card, good), stops(2, 6, 1));
+    assert_eq!(second::forecast(&card, form), no_forecast(6));
+    assert_eq!(second::forecast(&card, order), no_forecast(7));
+    for batch in [good, form, order, &[1]] {
+        for (number, word, value) in [(1, 1, 9), (2, 0, 2), (3, 2, 1), (3, 6, 1), (4, 8, 6)] {
+            let mut wrong = card.clone();
+            wrong[word] = value;
+            assert_eq!(second::forecast(&wrong, batch), no_forecast(number));
+        }
+        for length in 0..card.len() {
+            assert_eq!(second::forecast(&card[..length], batch), no_forecast(1));
+        }
+    }
+    for (wrong, number) in WRONG_ANNULMENTS.iter().chain(&WRONG_EMPTY_RANGES) {
+        assert_eq!(second::forecast(&card, wrong), no_forecast(*number));
+    }
+}
+
+#[test]
+fn forecasts_against_the_second_programs_runs() {
+    let mut checked = 0;
+    let mut stopped = 0;
+    let mut stopped_later = 0;
+    for seed in 0..8000 {
+        let mut random = Random::new(170_000 + seed);
+        let b = random.pick(&[8, 8, 9, 10, 12, 16, 20]);
+        let n = random.pick(&[2, 3, 4, 5, 6, 8, 11]);
+        let card = cards::any(&mut random, b, n);
+        let universe = Universe::random(&mut random);
+        for _ in 0..3 {
+            let mixture = Mixture::random(&mut random);
+            let most = random.pick(&[2, 10, 60]);
+            let batch = if random.chance(1, 2) {
+                batches::good(&mut random, &universe, mixture, most)
+            } else {
+                batches::near(&mut random, &card, mixture, most)
+            };
+            let forecast = forecast_agrees(&card, &batch);
+            checked += 1;
+            stopped += u32::from(!forecast.finishes);
+            stopped_later += u32::from(forecast.writes > 0);
+        }
+        assert!(forecast_agrees(&card, &[]).finishes);
+        let removals = removals_of(&mut random, &card);
+        let free = Configuration::read(&card).free_places().len();
+        assert!(forecast_agrees(&card, &removals).finishes || free == 1);
+        checked += 2;
+    }
+    println!(
+        "forecasts_against_the_second_programs_runs: {checked} comparisons, {stopped} stopped, \
+         {stopped_later} of them after a write"
+    );
+    assert!(stopped > 1_000 && stopped_later > 300);
 }

@@ -304,7 +304,7 @@ module _ (us : List Update) (f : EachUpdate Formed us) (o : falls 0 us ≡ false
   abbrev place : ℕ
   place = begun (starts us) (length (reachesFrom 0 us)) j p
 
-  place-halved : Halved (starts us) p place place
+  pub place-halved : Halved (starts us) p place place
   place-halved =
       begun-halved (starts us) (length (reachesFrom 0 us)) j p
       (record {

@@ -110,7 +110,7 @@ reaches r (u ∷ us) x k a e = go (ltb x here) refl (reaches r us x (reachWith r
         ih ∙ (unfold reachWith in rw (le-leb here x (ltb-false x here f), reach (eqb (u .kind) r) (ltb k high) refl, and-true) (or-assoc (leb x k) _ _))
 
 -- a pair is removed by a record of its term, or its position by one of every term
-any-removes : (x : ℕ) (us : List Update) → anyUpdate (removes x) us ≡ (anyUpdate (covers 2 x) us || anyUpdate (covers 3 (position x)) us)
+pub any-removes : (x : ℕ) (us : List Update) → anyUpdate (removes x) us ≡ (anyUpdate (covers 2 x) us || anyUpdate (covers 3 (position x)) us)
 unfolding anyUpdate removes
 any-removes x [] = refl
 any-removes x (u ∷ us) = table (covers 2 x u) (covers 3 (position x) u) (anyUpdate (covers 2 x) us) (anyUpdate (covers 3 (position x)) us) (any-removes x us)
@@ -142,7 +142,7 @@ none-low [] f = refl
 none-low (u ∷ us) f = rw (lt-ltb 0 (rank (u .term) (u .from)) (omega (arith, f .0 .fromLow)))
 
 -- a round begun at or below the position reaches to it exactly where one covers it
-rounds-reached :
+pub rounds-reached :
     (us : List Update) → EachUpdate Formed us → falls 0 us ≡ false → (j p : ℕ) → p < wordLimit →
     reached (roundReaches us) (begun (starts us) (length (roundReaches us)) j p) p ≡ anyUpdate (covers 3 p) us
 unfolding reached
@@ -207,7 +207,7 @@ unfolding decided
 follows-next {b} f ts x h = record { passes = λ y l. rw (f .passes x h) (passed-asked b x y l) }
 
 -- in a batch in order, with where its rounds reach to, what is decided is what the batch does to the pair
-asked-facts : (b : List ℕ) (x : ℕ) → batchNumber b ≡ 0 → 0 < x →
+pub asked-facts : (b : List ℕ) (x : ℕ) → batchNumber b ≡ 0 → 0 < x →
     (leb x (asked b x .reach) ≡ anyUpdate (covers 2 x) (updates b)) × (eqb x (asked b x .added) ≡ anyUpdate (adds x) (updates b))
 unfolding asked passedTo behind
 asked-facts b x e h =

@@ -9,3 +9,4 @@ pub mod Meaning
 pub mod Merge
 pub mod Records
 pub mod Search
+pub mod Behind

@@ -1,10 +1,12 @@
 -- What a batch makes of a set: the set less everything removed, plus everything added.
-use Prim.Native.Nat.{ℕ, _<_}
+use Prim.Native.Nat.{ℕ, suc, _+_, _≤_, _<_}
+use native.Mathlib.Omega.{arith}
 use mathlib.Core.Path.{_≡_, refl, sym, ap, _∙_}
 use mathlib.Core.Bool.{Bool, true, false, cond, _&&_, _||_, not, or-assoc, and-true, and-comm}
 use mathlib.Core.List.{List, [], _∷_}
 use mathlib.Core.Logic.{inl, inr}
-use lib.Dec.{eqb}
+use lib.ListN.{length}
+use lib.Dec.{ltb, eqb}
 use borrow.Author.Tests.{eq-eqb}
 use Rattle.pair.specs.Rank.{rank}
 use Rattle.pair.specs.Rising.{Each, keep, risingFrom, insert}
@@ -151,3 +153,25 @@ applied-removals us s h =
     rw (withAdded-removals us s h)
     (keep-same (λ x. not (withdrawn us x)) (λ x. not (removed us x))
     (λ x. rw (added-removals us x h) (ap not (and-true (removed us x)))) s)
+
+insert-few : (n : ℕ) (xs : List ℕ) → length (insert n xs) ≤ suc (length xs)
+unfolding insert
+insert-few n [] = omega arith
+insert-few n (x ∷ xs) = go (insert-few n xs) (ltb n x) (eqb n x)
+  where
+    go : length (insert n xs) ≤ suc (length xs) → (s t : Bool) → length (cond s (n ∷ x ∷ xs) (cond t (x ∷ xs) (x ∷ insert n xs))) ≤ suc (suc (length xs))
+    go h true t = omega arith
+    go h false true = omega arith
+    go h false false = omega (arith, h)
+
+-- at most one pair is added by each record
+pub added-few : (us : List Update) (s : List ℕ) → length (withAdded us s) ≤ length us + length s
+unfolding withAdded
+added-few [] s = omega arith
+added-few (u ∷ us) s = go (added-few us s) (eqb (u .kind) 1)
+  where
+    go :
+        length (withAdded us s) ≤ length us + length s → (t : Bool) →
+        length (cond t (insert (rank (u .term) (u .from)) (withAdded us s)) (withAdded us s)) ≤ suc (length us) + length s
+    go h true = omega (arith, h, insert-few (rank (u .term) (u .from)) (withAdded us s))
+    go h false = omega (arith, h)

@@ -1,7 +1,7 @@
 -- The merge of a set with the additions of a batch, one pair after the other.
 use Prim.Native.Nat.{ℕ, zero, suc, _≤_, _<_}
 use mathlib.Core.Path.{_≡_, refl, sym, _∙_}
-use mathlib.Core.Bool.{Bool, true, false, cond, _&&_, not}
+use mathlib.Core.Bool.{Bool, true, false, cond, _&&_, _||_, not, or-true}
 use mathlib.Core.List.{List, [], _∷_}
 use mathlib.Core.Logic.{_⊎_, inl, inr}
 use lib.ListN.{getD}
@@ -14,7 +14,7 @@ use Rattle.pair.proofs.Tests.{and-right, or-left, or-right, compared}
 use Rattle.pair.proofs.Rising.{rises}
 use Rattle.pair.proofs.Keep.{keep-cons}
 use Rattle.pair.proofs.Parts.{above-keep, Each-above, rises-next}
-use Rattle.batch.specs.Batch.{Update, withdrawn, withAdded, applied, falls}
+use Rattle.batch.specs.Batch.{Update, anyUpdate, adds, withdrawn, withAdded, applied, falls}
 use Rattle.batch.specs.code.Search.{lesser, addsAbove, leastAdded}
 use Rattle.batch.proofs.Meaning.{rises-withAdded}
 
@@ -117,6 +117,46 @@ firstAbove-withAdded k (u ∷ us) s = go (eqb (u .kind) 1) (firstAbove-withAdded
         ≡ lesser (cond (t && ltb k here) (lesser here (leastAdded k us)) (leastAdded k us)) (firstAbove k s)
     go true ih = firstAbove-insert (withAdded us s) k here ∙ rw ih (put (ltb k here))
     go false ih = ih
+
+-- where there is one, the least addition above k is added and above k
+pub leastAdded-adds : (us : List Update) (k : ℕ) → (leastAdded k us ≡ 0) ⊎ ((k < leastAdded k us) × (anyUpdate (adds (leastAdded k us)) us ≡ true))
+unfolding leastAdded addsAbove anyUpdate adds
+leastAdded-adds [] k = inl refl
+leastAdded-adds (u ∷ us) k = go (eqb (u .kind) 1) refl (ltb k here) refl (leastAdded-adds us k)
+  where
+    here : ℕ
+    here = rank (u .term) (u .from)
+
+    least : ℕ
+    least = leastAdded k us
+
+    Is : ℕ → Bool → Type 0
+    Is x s = (x ≡ 0) ⊎ ((k < x) × (((s && eqb x here) || anyUpdate (adds x) us) ≡ true))
+
+    -- the record's own pair, or the least of the others
+    own : (s : Bool) → s ≡ true → k < here → Is here s
+    own s f l = inr (l, rw (f, eq-eqb here here refl))
+
+    other : (s : Bool) → (k < least) × (anyUpdate (adds least) us ≡ true) → Is least s
+    other s (l, e) = inr (l, rw e (or-true (s && eqb least here)))
+
+    both : (s : Bool) → s ≡ true → k < here → (k < least) × (anyUpdate (adds least) us ≡ true) → (n : ℕ) → lesser here least ≡ n → (n ≡ here) ⊎ (n ≡ least) → Is n s
+    both s f l h n e (inl z) = rw z (own s f l)
+    both s f l h n e (inr z) = rw z (other s h)
+
+    go : (s : Bool) → eqb (u .kind) 1 ≡ s → (t : Bool) → ltb k here ≡ t → (least ≡ 0) ⊎ ((k < least) × (anyUpdate (adds least) us ≡ true)) →
+        Is (cond (s && t) (lesser here least) least) s
+    go true f true g (inl z) = rw (z, lesser-none here) (own true refl (ltb-true k here g))
+    go true f true g (inr h) = both true refl (ltb-true k here g) h (lesser here least) refl (either (compared here least))
+      where
+        either : (here < least) ⊎ ((here ≡ least) ⊎ (least < here)) → (lesser here least ≡ here) ⊎ (lesser here least ≡ least)
+        either (inl l) = inl (lesser-left here least (omega (arith, ltb-true k here g)) (omega arith))
+        either (inr (inl l)) = inl (lesser-left here least (omega (arith, ltb-true k here g)) (omega arith))
+        either (inr (inr l)) = inr (lesser-right here least (omega (arith, h .0)) (omega arith))
+    go true f false g (inl z) = inl z
+    go true f false g (inr h) = other true h
+    go false f t g (inl z) = inl z
+    go false f t g (inr h) = other false h
 
 -- the updates of a batch in order stand rising, so its first addition above k is the least
 pub leastAdded-low : (us : List Update) (x k : ℕ) → falls x us ≡ false → (leastAdded k us ≡ 0) ⊎ (x ≤ leastAdded k us)

@@ -89,7 +89,7 @@ passed-turn b k x h l =
     rw (update-at b (k .next) h, le-ltb x (rank (recordAt b (k .next) .term) (recordAt b (k .next) .from)) l, more)
 
 -- its end: the next record starts above the pair, or there is none
-passed-here : (b : List ℕ) (k : Passed) (x : ℕ) → startingTo x (drop (k .next) (updates b)) ≡ [] → passedTo b k x ≡ k
+pub passed-here : (b : List ℕ) (k : Passed) (x : ℕ) → startingTo x (drop (k .next) (updates b)) ≡ [] → passedTo b k x ≡ k
 unfolding passedTo behind reachOf addedOf
 passed-here b k x e = rw (e, add-zero (k .next))
 

@@ -1,3 +1,4 @@
 -- What only the code's contracts and proofs speak of.
 pub mod Rounds
 pub mod Search
+pub mod Untouched

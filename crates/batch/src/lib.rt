@@ -5,6 +5,7 @@ ghost use lib.ListN.{length};
 ghost use Rattle.pair.specs.Rank.{rank};
 ghost use Rattle.batch.specs.Batch.{illFormed, batchNumber};
 ghost use Rattle.batch.specs.code.Search.{recordAt, updateOf, nextAddition, reachWith, addedWith, passedTo, decided};
+ghost use Rattle.batch.specs.code.Untouched.{beforeRecord, untouched, quietBefore};
 use pair::Pair;
 
 pub mod rounds;
@@ -15,6 +16,11 @@ pub(crate) const RECORD_WORDS: usize = 4;
 pub const RECORDS_MOST: usize = 4_096;
 
 const MOST_WORDS: usize = 16_384;
+
+const HIGHEST_POSITION: u32 = 4_294_967_295;
+
+// No pair stands above this rank.
+const NO_RANK: u64 = 18_446_744_073_709_551_615;
 
 const ADDS: u32 = 1;
 
@@ -223,4 +229,62 @@ pub fn decide(batch: &[u32], reaches: &[u32], cursor: Cursor, rank: u64) -> Deci
         cursor: Cursor { passed, begun },
         withdrawn: annulled & (rank != added),
     }
+}
+
+// Up to which position a record leaves the pairs of a term behind a pair: up to where it starts, if it is of that term; 0 where it starts at or below
+// the pair.
+fn before_record(batch: &[u32], n: usize, rank: u64) -> u32
+    ensures { λ r. ⌜ r ≡ beforeRecord (now (batch .entry)) n rank ⌝ }
+{
+    if batch.len() / RECORD_WORDS <= n {
+        return HIGHEST_POSITION;
+    }
+    let u = record_at(batch, n);
+    if first_rank(u) <= rank {
+        return 0;
+    }
+    let pair = Pair::of_rank(rank);
+    let term = u.term;
+    if term == pair.term {
+        return u.from - 1;
+    }
+    HIGHEST_POSITION
+}
+
+// Up to which position no record touches a pair of the same term behind a pair, at the cursor behind it and with where the rounds reach to; 0 where
+// that is not known.
+pub fn untouched(batch: &[u32], reaches: &[u32], cursor: Cursor, rank: u64) -> u32
+    ensures { λ r. ⌜ r ≡ untouched (now (batch .entry)) (now (reaches .entry)) cursor rank ⌝ }
+{
+    let passed = cursor.passed;
+    let reach = passed.reach;
+    if rank <= reach {
+        return 0;
+    }
+    let to = before_record(batch, passed.next, rank);
+    if reaches.len() == 0 {
+        return to;
+    }
+    let pair = Pair::of_rank(rank);
+    rounds::before_round(batch, reaches, cursor.begun, pair.position, to)
+}
+
+// The rank of a pair before which no record touches the pairs behind a pair, of any term, at the cursor behind it; 0 where that is not known, as
+// with rounds.
+pub fn quiet_before(batch: &[u32], reaches: &[u32], cursor: Cursor, rank: u64) -> u64
+    ensures { λ r. ⌜ r ≡ quietBefore (now (batch .entry)) (now (reaches .entry)) cursor rank ⌝ }
+{
+    if reaches.len() != 0 {
+        return 0;
+    }
+    let passed = cursor.passed;
+    let reach = passed.reach;
+    if rank <= reach {
+        return 0;
+    }
+    let next = passed.next;
+    if batch.len() / RECORD_WORDS <= next {
+        return NO_RANK;
+    }
+    first_rank(record_at(batch, next))
 }

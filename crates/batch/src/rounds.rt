@@ -8,6 +8,7 @@ ghost use lib.ListN.{length, getD};
 ghost use lib.Seq.{sets};
 ghost use Rattle.batch.specs.Batch.{updates};
 ghost use Rattle.batch.specs.code.Rounds.{starts, roundReaches, halving, stands, begun, reached};
+ghost use Rattle.batch.specs.code.Untouched.{beforeRound};
 use crate::ANNULS;
 use crate::RECORD_WORDS;
 use crate::first_rank;
@@ -133,4 +134,26 @@ pub(crate) fn reached(reaches: &[u32], begun: usize, position: u32) -> bool
         return false;
     }
     position <= reaches[begun - 1]
+}
+
+// Up to which position, and to another at most, the rounds leave positions behind one: up to where the next of them starts; 0 where one reaches to it.
+pub(crate) fn before_round(batch: &[u32], reaches: &[u32], at: usize, position: u32, to: u32) -> u32
+    ensures { λ r. ⌜ r ≡ beforeRound (starts (updates (now (batch .entry)))) (now (reaches .entry)) (min (length (now (reaches .entry))) (length (now (batch .entry)) / 4)) at position to ⌝ }
+{
+    let records = lesser(reaches.len(), batch.len() / RECORD_WORDS);
+    let begun = begun(batch, reaches.len(), at, position);
+    if reached(reaches, begun, position) {
+        return 0;
+    }
+    if records <= begun {
+        return to;
+    }
+    let start = start_at(batch, begun);
+    if (to as u64) < start {
+        return to;
+    }
+    if start == 0 {
+        return 0;
+    }
+    (start - 1) as u32
 }

@@ -49,11 +49,15 @@ opened-other {ks} {t} {pre} {ps} o x h = record { whole = go }
         let e : 1 + leading (term x) js ≡ suc (leading (term x) js) = omega arith in
         rw (append-assoc ks, o .whole (x ∷ js), ne-eqb (term x) t h, append-assoc pre, e, add-zero)
 
--- one pair more costs what it costs after the last one
-pub size-snoc : (d : ℕ) (ks : List ℕ) (x : ℕ) → size (term d) (ks ++ x ∷ []) ≡ size (term d) ks + cost (term (last d ks)) x
+-- further pairs cost what they cost after the last one
+pub size-join : (d : ℕ) (ks js : List ℕ) → size (term d) (ks ++ js) ≡ size (term d) ks + size (term (last d ks)) js
 unfolding size last
-size-snoc d [] x = omega arith
-size-snoc d (k ∷ ks) x = omega (arith, size-snoc k ks x)
+size-join d [] js = omega arith
+size-join d (k ∷ ks) js = omega (arith, size-join k ks js)
+
+pub size-snoc : (d : ℕ) (ks : List ℕ) (x : ℕ) → size (term d) (ks ++ x ∷ []) ≡ size (term d) ks + cost (term (last d ks)) x
+unfolding size
+size-snoc d ks x = omega (arith, size-join d ks (x ∷ []))
 
 -- pairs that have room all fit, and then as many of the rest as fit after them
 pub fitting-split : (room d : ℕ) (ks rest : List ℕ) → size (term d) ks ≤ room →
@@ -69,19 +73,27 @@ pub record Filled (b : ℕ) (r ks : List ℕ) (on : Bool) : Type 0 where
   pub due : due b r ≡ ks
   pub goesOn : goesOn b r ≡ on
 
+pub fitting-end : (b : ℕ) (ks : List ℕ) → size 0 ks ≤ b → fitting b 0 (ks ++ []) ≡ length ks
+unfolding fitting
+fitting-end b ks h = fitting-split b 0 ks [] h ∙ add-zero (length ks)
+
 pub filled-end : (b : ℕ) (ks : List ℕ) → size 0 ks ≤ b → Filled b (ks ++ []) ks false
-unfolding due goesOn fitting
+unfolding due goesOn
 filled-end b ks h =
-    let e : fitting b 0 (ks ++ []) ≡ length ks = fitting-split b 0 ks [] h ∙ add-zero (length ks) in
+    let e = fitting-end b ks h in
     record {
       due = rw e (take-append-seam ks []);
       goesOn = rw (e, append-nil) (le-ltb (length ks) (length ks) (omega arith));
     }
 
+pub fitting-full : (b : ℕ) (ks : List ℕ) (x : ℕ) (rest : List ℕ) → size 0 ks ≤ b → b - size 0 ks < cost (term (last 0 ks)) x → fitting b 0 (ks ++ x ∷ rest) ≡ length ks
+unfolding fitting
+fitting-full b ks x rest h l = fitting-split b 0 ks (x ∷ rest) h ∙ rw (lt-leb (cost (term (last 0 ks)) x) (b - size 0 ks) l) (add-zero (length ks))
+
 pub filled-full : (b : ℕ) (ks : List ℕ) (x : ℕ) (rest : List ℕ) → size 0 ks ≤ b → b - size 0 ks < cost (term (last 0 ks)) x → Filled b (ks ++ x ∷ rest) ks true
-unfolding due goesOn fitting
+unfolding due goesOn
 filled-full b ks x rest h l =
-    let e : fitting b 0 (ks ++ x ∷ rest) ≡ length ks = fitting-split b 0 ks (x ∷ rest) h ∙ rw (lt-leb (cost (term (last 0 ks)) x) (b - size 0 ks) l) (add-zero (length ks)) in
+    let e = fitting-full b ks x rest h l in
     record {
       due = rw e (take-append-seam ks (x ∷ rest));
       goesOn = rw (e, length-append ks) (lt-ltb (length ks) (length ks + suc (length rest)) (omega arith));

@@ -16,7 +16,7 @@ unfoldable pub size : ℕ → List ℕ → ℕ
 size t [] = 0
 size t (k ∷ ks) = cost t k + size (term k) ks
 
-cost-low : (t k : ℕ) → 1 ≤ cost t k
+pub cost-low : (t k : ℕ) → 1 ≤ cost t k
 cost-low t k = go (eqb (term k) t)
   where
     go : (s : Bool) → 1 ≤ cond s 1 3

@@ -1,10 +1,10 @@
 -- The live pairs of a sound card: rising, pairs all of them, and in two parts at the boundary.
-use Prim.Native.Nat.{ℕ, _≤_, _<_}
+use Prim.Native.Nat.{ℕ, _*_, _≤_, _<_}
 use mathlib.Core.Path.{_≡_, refl, sym}
 use mathlib.Core.Bool.{true, _&&_, and-assoc}
 use mathlib.Core.List.{List, [], _∷_, _++_, append-assoc, append-nil}
 use native.Mathlib.Omega.{arith}
-use lib.ListN.{length, drop, getD}
+use lib.ListN.{length, drop, getD, length-append, length-take}
 use lib.Dec.{eqb, ltb}
 use borrow.Author.Tests.{lt-ltb}
 use Rattle.pair.specs.Rank.{Words, Proper}
@@ -13,8 +13,9 @@ use Rattle.pair.proofs.Tests.{and-left, and-right}
 use Rattle.pair.proofs.Each.{Each-append, Each-keep}
 use Rattle.pair.proofs.Rising.{rising-head, rising-first, rising-join, rising-above}
 use Rattle.pair.proofs.Parts.{above-append, atMost-append, atMost-all, above-none, above-above, atMost-above-none}
-use Rattle.block.specs.Block.{pairs, formed}
+use Rattle.block.specs.Block.{blockSizeMost, pairs, formed}
 use Rattle.block.proofs.Reading.{formed-proper, formed-some}
+use Rattle.block.proofs.Size.{block-size, length-size}
 use Rattle.card.specs.Layout.{blockSize, boundary, placeAt, firstPair, place, oldPlaces, newPlaces, pairsAt, live}
 use Rattle.card.specs.Sound.{blocksSound, firstReaches}
 use Rattle.pair.proofs.Words.{words-take, words-drop}
@@ -93,3 +94,12 @@ module _ (c : List ℕ) (f : Facts c) where
       let old : Each Proper (pairsAt c (oldPlaces c)) = pairsAt-proper c (oldPlaces c) w (f .oldSound) in
       Each-append Proper (pairsAt c (newPlaces c)) _ (pairsAt-proper c (newPlaces c) w (f .newSound))
       (Each-keep Proper (ltb (boundary c)) (pairsAt c (oldPlaces c)) old)
+
+-- every block has at most so many pairs
+pub length-pairsAt : (c is : List ℕ) → Words c → blockSize c ≤ blockSizeMost → length (pairsAt c is) ≤ blockSizeMost * length is
+unfolding pairsAt
+length-pairsAt c [] w h = omega arith
+length-pairsAt c (i ∷ is) w h =
+    let one : length (pairs (place c i)) ≤ length (place c i) = omega (arith, length-size 0 (pairs (place c i)), block-size (place c i) (place-words c i w)) in
+    let size : length (place c i) ≤ blockSize c = unfold place in rw length-take (omega arith) in
+    rw length-append (omega (arith, length-pairsAt c is w h))

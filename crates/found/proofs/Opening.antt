@@ -1,24 +1,23 @@
 -- The walk that a lookup makes: what is ahead of it is what is found, and its first run is the run view's.
-use Prim.Native.Nat.{ℕ, zero, suc, _+_, _*_, _≤_, _<_}
+use Prim.Native.Nat.{ℕ, zero, suc, _+_, _≤_, _<_}
 use native.Mathlib.Omega.{arith}
 use mathlib.Core.Path.{_≡_, refl, sym, ap, _∙_}
 use mathlib.Core.Bool.{Bool, true, false, _&&_, and-false}
 use mathlib.Core.List.{List, [], _∷_, _++_, map, map-append}
 use borrow.Author.Tests.{leb-true, lt-ltb, lt-leb, eq-eqb}
-use lib.ListN.{length, length-append, length-map, length-take}
+use lib.ListN.{length, length-append, length-map}
 use lib.Dec.{ltb, leb}
 use Rattle.pair.specs.Rank.{wordLimit, rank, position, Words}
 use Rattle.pair.specs.Rising.{keep, above, within}
 use Rattle.pair.proofs.Keep.{keep-append, keep-same, keep-keep, length-keep}
-use Rattle.block.specs.Block.{blockSizeMost, pairs, wordsBefore}
+use Rattle.block.specs.Block.{pairs, wordsBefore}
 use Rattle.wanted.specs.code.Wanted.{isWanted}
-use Rattle.block.proofs.Size.{block-size, length-size}
 use Rattle.card.specs.Layout.{blockSize, placeCount, oldStart, oldLength, newLength, boundary, placeAt, place, around, oldPlaces, newPlaces, pairsAt, live}
 use Rattle.card.specs.code.Configuration.{ConfigurationOf, placeOn, Ordered}
 use Rattle.card.specs.declared.layout.Configuration.{Configuration}
 use Rattle.card.proofs.Circle.{length-around}
 use Rattle.card.proofs.Facts.{Facts, facts}
-use Rattle.card.proofs.Live.{place-words}
+use Rattle.card.proofs.Live.{length-pairsAt}
 use Rattle.card.proofs.Ordered.{ordered-sound, around-on}
 use Rattle.found.specs.declared.walk.Stretch.{Stretch}
 use Rattle.found.specs.declared.walk.Walk.{Walk}
@@ -83,15 +82,7 @@ module _ (c : List ℕ) (k a z : ℕ) (f : ℕ → Bool) (h : (x : ℕ) → f x 
       go [] ih = ih
       go (x ∷ xs) ih = ap (λ n. placeAt c i + n) (words-same (λ y. ltb k y && leb a y && leb y z) f (λ y. sym (h y ∙ joined (ltb k y) (leb a y) (leb y z))) (place c i) 0 0)
 
--- what is found is short: every block has at most so many pairs
-length-pairsAt : (c is : List ℕ) → Words c → blockSize c ≤ blockSizeMost → length (pairsAt c is) ≤ blockSizeMost * length is
-unfolding pairsAt
-length-pairsAt c [] w h = omega arith
-length-pairsAt c (i ∷ is) w h =
-    let one : length (pairs (place c i)) ≤ length (place c i) = omega (arith, length-size 0 (pairs (place c i)), block-size (place c i) (place-words c i w)) in
-    let size : length (place c i) ≤ blockSize c = unfold place in rw length-take (omega arith) in
-    rw length-append (omega (arith, length-pairsAt c is w h))
-
+-- what is found is short
 few-found : (c : List ℕ) (t a z : ℕ) → Words c → Facts c → length (found c t a z) < wordLimit
 unfolding found live within above
 few-found c t a z w g =

@@ -4,6 +4,9 @@ use mathlib.Core.Path.{_≡_}
 use mathlib.Core.Bool.{Bool, cond}
 use mathlib.Core.List.{List}
 use Rattle.update.specs.Step.{Step}
+use Rattle.update.specs.declared.forecast.ForecastAnswer.{ForecastAnswer}
+use Rattle.update.specs.Forecast as forecast
+use Rattle.update.specs.Forecast.{blocksOf, limitOf, finishesOf, writesOf}
 use Rattle.span.specs.declared.WriteSpan.{WriteSpan}
 use Rattle.lookup.specs.declared.LookupAnswer.{LookupAnswer}
 use Rattle.lookup.specs.Answer.{numberOf, countOf, blocksReadOf}
@@ -21,6 +24,14 @@ pub record Stepped (number write freed finished : ℕ) (card : List ℕ) (s : St
   pub ofFreed : freed ≡ s .freed
   pub ofFinished : finished ≡ flag (s .finished)
   pub ofCard : card ≡ s .card
+
+-- the reply and the numbers filled in are those of a forecast
+pub record Foretold (number blocks limit finishes writes : ℕ) (f : ForecastAnswer) : Type 0 where
+  pub ofNumber : number ≡ forecast.numberOf f
+  pub ofBlocks : blocks ≡ blocksOf f
+  pub ofLimit : limit ≡ limitOf f
+  pub ofFinishes : finishes ≡ flag (finishesOf f)
+  pub ofWrites : writes ≡ writesOf f
 
 -- the reply and the numbers filled in are those of where a write stands
 pub record Spanned (number start count : ℕ) (s : WriteSpan) : Type 0 where

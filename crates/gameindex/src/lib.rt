@@ -4,8 +4,9 @@ ghost use Rattle.card.specs.Layout.{formatNumber, formatted};
 ghost use Rattle.card.specs.Sound.{judged};
 ghost use Rattle.span.specs.Span.{writeSpan};
 ghost use Rattle.update.specs.Step.{step};
+ghost use Rattle.update.specs.Forecast.{forecast};
 ghost use Rattle.pair.specs.Bounds.{lowest, highest};
-ghost use Rattle.gameindex.specs.Flat.{flag, Stepped, Spanned, Filled, LookedUp, Paged, ReadScores};
+ghost use Rattle.gameindex.specs.Flat.{flag, Stepped, Foretold, Spanned, Filled, LookedUp, Paged, ReadScores};
 ghost use Rattle.found.specs.Found.{lookup};
 ghost use Rattle.found.specs.Views.{Viewed};
 ghost use Rattle.reader.specs.Reader.{read, ReadOff};
@@ -13,6 +14,7 @@ ghost use Rattle.page.specs.Page.{printed};
 ghost use Rattle.lines.specs.Lines.{scored};
 use lookup::LookupAnswer;
 use page::PageAnswer;
+use update::forecast;
 
 // Formats a card; the reply is the number, 0 where it is done.
 #[no_mangle]
@@ -56,6 +58,27 @@ pub extern "C" fn gi_step(
     *freed = update::freed_of(answer);
     *finished = flag(update::finished_of(answer));
     update::number_of(answer)
+}
+
+// What an uncut run of a batch comes to; the reply is the number, 0 where it is told. How many blocks what remains fills, the step limit, whether
+// the pass finishes and the configuration writes before number 8 are filled in.
+#[no_mangle]
+pub extern "C" fn gi_forecast(
+    card: &[u32],
+    batch: &[u32],
+    blocks: &mut u32,
+    limit: &mut u32,
+    finishes: &mut u32,
+    writes: &mut u32,
+) -> u32
+    ensures { λ r. ⌜ Foretold r (now (blocks .exit)) (now (limit .exit)) (now (finishes .exit)) (now (writes .exit)) (forecast (now (card .entry)) (now (batch .entry))) ⌝ }
+{
+    let answer = forecast::forecast(card, batch);
+    *blocks = forecast::blocks_of(answer);
+    *limit = forecast::limit_of(answer);
+    *finishes = flag(forecast::finishes_of(answer));
+    *writes = forecast::writes_of(answer);
+    forecast::number_of(answer)
 }
 
 // Where a write of a step stands in the card that the step left; the reply is the number, 0 where it is done. The first word and the count of words go behind the last two references.

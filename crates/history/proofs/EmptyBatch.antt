@@ -8,7 +8,7 @@ use Rattle.update.proofs.Crowded.{empty-not-crowded}
 use Rattle.update.proofs.Steps.{accepting}
 use Rattle.history.specs.Claims.{EmptyNeverFull}
 
-empty-in-order : batchNumber [] ≡ 0
+pub empty-in-order : batchNumber [] ≡ 0
 unfolding batchNumber firstOf updates anyUpdate falls
 empty-in-order = refl
 

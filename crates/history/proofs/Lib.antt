@@ -4,6 +4,7 @@ pub mod Demand3
 pub mod EmptyBatch
 pub mod EmptyRanges
 pub mod Events
+pub mod Fits
 pub mod Keeping
 pub mod Kept
 pub mod KeptBatch

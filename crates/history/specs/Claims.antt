@@ -15,6 +15,7 @@ use Rattle.batch.specs.Batch.{Update, updates, anyUpdate, applied, recordWords,
 use Rattle.span.specs.Span.{writeSpan}
 use Rattle.update.specs.Step.{withWrite, remains, stepNumber, step}
 use Rattle.update.specs.Pass.{stepLimit, finishesWithin, refusedWithin}
+use Rattle.update.specs.Forecast.{finishesOf, forecast, Foretells}
 use Rattle.found.specs.Found.{questionNumber, blocksRead, holders, lookup}
 use Rattle.reader.specs.Reader.{posting, ended, yielded, read}
 use Rattle.history.specs.History.{Event, stepped, cut, looked, restarted, formats, after, AllOfWords}
@@ -25,6 +26,10 @@ PassFinishes =
     (c b : List ℕ) → Words c → Words b → judged c ≡ 0 →
     let n = stepLimit (blockSize c) (remains c b) in
     refusedWithin n c b ≡ false → finishesWithin n c b ≡ true
+
+-- for every card and batch the forecast agrees with the uncut run
+unfoldable pub ForecastAgrees : Type 0
+ForecastAgrees = (c b : List ℕ) → Words c → Words b → Foretells c b
 
 -- on the card c the event lends no batch but b, and is no accepted call of the formatter
 unfoldable pub Lends : List ℕ → List ℕ → Event → Type 0
@@ -57,6 +62,15 @@ RemovalsNeverFull =
     (c b : List ℕ) (es : List Event) → Words c → Words b → AllOfWords es → judged c ≡ 0 → batchNumber b ≡ 0 →
     anyUpdate (λ u. eqb (u .kind) 1) (updates b) ≡ false → 2 ≤ freePlaces c → Keeps c b es →
     stepNumber (ran c es) b ≡ 0
+
+-- so an empty batch fits, and removals do where two places are free
+unfoldable pub EmptyFits : Type 0
+EmptyFits = (c : List ℕ) → Words c → judged c ≡ 0 → finishesOf (forecast c []) ≡ true
+
+unfoldable pub RemovalsFit : Type 0
+RemovalsFit =
+    (c b : List ℕ) → Words c → Words b → judged c ≡ 0 → batchNumber b ≡ 0 →
+    anyUpdate (λ u. eqb (u .kind) 1) (updates b) ≡ false → 2 ≤ freePlaces c → finishesOf (forecast c b) ≡ true
 
 -- a removal whose from is above its to, in a batch in order: on every card a step is the one without it
 unfoldable pub EmptyRangeSameStep : Type 0

@@ -3,6 +3,7 @@ pub mod Computed
 pub mod Cuts
 pub mod Demand3
 pub mod EmptyRanges
+pub mod Forecasts
 pub mod Lookups
 pub mod Pages
 pub mod Passes

@@ -1,5 +1,5 @@
 -- How many blocks a pass has still to write: none where nothing remains, and one fewer beyond the due block.
-use Prim.Native.Nat.{ℕ, suc, _-_, _≤_, _<_}
+use Prim.Native.Nat.{ℕ, suc, _-_, _≤_, _<_, zero-le}
 use native.Mathlib.Omega.{arith}
 use mathlib.Core.Path.{_≡_, refl, ap}
 use mathlib.Core.Bool.{Bool, true, false, cond}
@@ -56,3 +56,15 @@ blocks-some b (k ∷ ks) l = rw (full 0 k) (omega arith)
 pub blocks-goesOn : (b : ℕ) (r : List ℕ) → 3 ≤ b → Each Proper r → goesOn b r ≡ true → 2 ≤ blocks b r
 blocks-goesOn b r h p g =
     rw (blocks-next b r h (goesOn-some b r g) p) (omega (arith, blocks-some b (drop (fitting b 0 r) r) (goesOn-rest b r g)))
+
+-- every block holds a pair
+pub blocks-few : (b room t : ℕ) (r : List ℕ) → blocksFrom b room t r ≤ length r
+unfolding blocksFrom
+blocks-few b room t [] = zero-le
+blocks-few b room t (k ∷ ks) = go (blocks-few b (room - cost t k) (term k) ks) (blocks-few b (b - 3) (term k) ks) (leb (cost t k) room)
+  where
+    go :
+        blocksFrom b (room - cost t k) (term k) ks ≤ length ks → blocksFrom b (b - 3) (term k) ks ≤ length ks → (s : Bool) →
+        cond s (blocksFrom b (room - cost t k) (term k) ks) (suc (blocksFrom b (b - 3) (term k) ks)) ≤ suc (length ks)
+    go h l true = omega (arith, h)
+    go h l false = omega (arith, l)

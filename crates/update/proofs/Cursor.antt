@@ -22,7 +22,7 @@ use Rattle.card.specs.Sound.{blocksSound}
 use Rattle.card.proofs.Circle.{around-mod}
 use Rattle.card.proofs.Parts.{place-inside}
 use Rattle.update.specs.declared.old.OldCursor.{OldCursor}
-use Rattle.update.specs.code.Old.{rest, coming, pending, BlockEntry, entryRead, Reading, Stands, Advanced}
+use Rattle.update.specs.code.Old.{rest, coming, pending, BlockEntry, entryRead, Reading, Stands, Advanced, positionOn}
 
 -- the words of a block from a word on, one word at a time
 rest-step : (c : List ℕ) (at end : ℕ) → at < end → end ≤ length c → rest c at end ≡ getD c at 0 ∷ rest c (at + 1) end
@@ -44,17 +44,21 @@ found c o r h e =
     let l : o .rank < r .rank = rising-head (r .rank) (coming c r) (o .rank) f in
     (rw (ne-eqb (r .rank) 0 (omega arith)) (sym e), rising-tail (r .rank) (coming c r) (o .rank) f)
 
--- another position of the term in hand
-formed-more : (ws : List ℕ) (t n p : ℕ) → 0 < n → formedFrom ws t n p ≡ true → 0 < length ws
+-- the positions of the term in hand that are still to come
+formed-more : (ws : List ℕ) (t n p : ℕ) → formedFrom ws t n p ≡ true → n ≤ length ws
 unfolding formedFrom
-formed-more [] t zero p h e = absurd (omega arith)
-formed-more [] t (suc n) p h e = absurd (false≢true e)
-formed-more (q ∷ ws) t n p h e = omega arith
+formed-more [] t zero p e = omega arith
+formed-more [] t (suc n) p e = absurd (false≢true e)
+formed-more (q ∷ ws) t zero p e = omega arith
+formed-more (q ∷ ws) t (suc n) p e = omega (arith, formed-more ws t n q (and-right (ltb p q) (formedFrom ws t n q) e))
+
+pub positions-room : {c : List ℕ} {o : OldCursor} → Stands c o → o .at + o .count ≤ o .end
+positions-room {c} {o} s =
+    let l = formed-more (rest c (o .at) (o .end)) (o .term) (o .count) (s .reading .position) (s .reading .formed) in
+    omega (arith, s .inside, rest-length c (o .at) (o .end) (s .inside) (s .ends))
 
 pub position-room : {c : List ℕ} {o : OldCursor} → Stands c o → 0 < o .count → o .at < o .end
-position-room {c} {o} s h =
-    let l = formed-more (rest c (o .at) (o .end)) (o .term) (o .count) (s .reading .position) h (s .reading .formed) in
-    omega (arith, rest-length c (o .at) (o .end) (s .inside) (s .ends))
+position-room {c} {o} s h = omega (arith, positions-room s)
 
 formed-position : (q : ℕ) (ws : List ℕ) (t n p : ℕ) → 0 < n → formedFrom (q ∷ ws) t n p ≡ true → formedFrom ws t (n - 1) q ≡ true
 unfolding formedFrom
@@ -66,10 +70,22 @@ unfolding pairsFrom
 pairs-position q ws t zero h = absurd (omega arith)
 pairs-position q ws t (suc n) h = let f : suc n - 1 ≡ n = omega arith in rw f
 
+pub coming-position : {c : List ℕ} {o : OldCursor} → Stands c o → 0 < o .count → coming c o ≡ positionOn c o .rank ∷ coming c (positionOn c o)
+unfolding coming
+coming-position {c} {o} s h =
+    rw (
+      rest-step c (o .at) (o .end) (position-room s h) (s .ends),
+      pairs-position (getD c (o .at) 0) (rest c (o .at + 1) (o .end)) (o .term) (o .count) h,
+    )
+
+-- it is a pair
+pub position-some : {c : List ℕ} {o : OldCursor} → Stands c o → 0 < o .count → 0 < positionOn c o .rank
+position-some {c} {o} s h = omega (arith, rising-head (positionOn c o .rank) (coming c (positionOn c o)) (o .rank) (rw (← coming-position s h) (s .rising)))
+
 pub advanced-position :
     {c : List ℕ} {o : OldCursor} → Stands c o → 0 < o .count →
-    Advanced c o (record { place = o .place; places = o .places; at = o .at + 1; end = o .end; term = o .term; count = o .count - 1; rank = rank (o .term) (getD c (o .at) 0) })
-advanced-position {c} {o} s h = go (found c o r (s .rising) comes)
+    Advanced c o (positionOn c o)
+advanced-position {c} {o} s h = go (found c o r (s .rising) (coming-position s h))
   where
     l : o .at < o .end
     l = position-room s h
@@ -78,10 +94,7 @@ advanced-position {c} {o} s h = go (found c o r (s .rising) comes)
     step = rest-step c (o .at) (o .end) l (s .ends)
 
     r : OldCursor
-    r = record { place = o .place; places = o .places; at = o .at + 1; end = o .end; term = o .term; count = o .count - 1; rank = rank (o .term) (getD c (o .at) 0) }
-
-    comes : coming c o ≡ r .rank ∷ coming c r
-    comes = unfold coming in rw (step, pairs-position (getD c (o .at) 0) (rest c (o .at + 1) (o .end)) (o .term) (o .count) h)
+    r = positionOn c o
 
     go : (pending c r ≡ coming c o) × (risingFrom (r .rank) (coming c r) ≡ true) → Advanced c o r
     go f =
@@ -90,6 +103,7 @@ advanced-position {c} {o} s h = go (found c o r (s .rising) comes)
             shaped = s .shaped;
             inside = omega (arith, l);
             ends = s .ends;
+            short = omega (arith, s .short);
             within = s .within;
             reading = record { position = getD c (o .at) 0; formed = formed-position (getD c (o .at) 0) (rest c (o .at + 1) (o .end)) (o .term) (o .count) (s .reading .position) h (rw step at (s .reading .formed)) };
             sound = s .sound;
@@ -147,11 +161,11 @@ entered c at end t h l r e =
 
 -- an entry read with the pairs of the places left behind it
 entry-stands :
-    (c : List ℕ) (o : OldCursor) (at end t m n : ℕ) → Stands c o → Entered c at end t → m < placeCount c →
+    (c : List ℕ) (o : OldCursor) (at end t m n : ℕ) → Stands c o → Entered c at end t → end ≤ at + blockSize c → m < placeCount c →
     blocksSound c (around (placeCount c) m n) ≡ true → coming c o ≡ pairsFrom (rest c at end) t 0 ++ pairsAt c (around (placeCount c) m n) →
     Advanced c o (entryRead c at end m n)
 unfolding entryRead
-entry-stands c o at end t m n s e k b f = go (found c o r (s .rising) comes)
+entry-stands c o at end t m n s e i k b f = go (found c o r (s .rising) comes)
   where
     r : OldCursor
     r = record { place = m; places = n; at = at + 3; end = end; term = getD c at 0; count = getD c (at + 1) 0 - 1; rank = rank (getD c at 0) (getD c (at + 2) 0) }
@@ -166,6 +180,7 @@ entry-stands c o at end t m n s e k b f = go (found c o r (s .rising) comes)
             shaped = s .shaped;
             inside = omega (arith, e .entry .inside);
             ends = e .entry .ends;
+            short = omega (arith, i);
             within = k;
             reading = e .reading;
             sound = b;
@@ -179,7 +194,7 @@ entry-there {c} {o} s z e = entered c (o .at) (o .end) (o .term) (s .inside) (s 
 
 pub advanced-entry : {c : List ℕ} {o : OldCursor} → Stands c o → o .count ≡ 0 → readsOn (rest c (o .at) (o .end)) ≡ true → Advanced c o (entryRead c (o .at) (o .end) (o .place) (o .places))
 advanced-entry {c} {o} s z e =
-    entry-stands c o (o .at) (o .end) (o .term) (o .place) (o .places) s (entered c (o .at) (o .end) (o .term) (s .inside) (s .ends) (rw z at (s .reading)) e) (s .within) (s .sound)
+    entry-stands c o (o .at) (o .end) (o .term) (o .place) (o .places) s (entered c (o .at) (o .end) (o .term) (s .inside) (s .ends) (rw z at (s .reading)) e) (omega (arith, s .short)) (s .within) (s .sound)
     (unfold coming in rw z)
 
 -- the block in hand is read
@@ -196,6 +211,7 @@ advanced-end {c} {o} s z e n =
         shaped = s .shaped;
         inside = omega arith;
         ends = s .ends;
+        short = omega (arith, s .inside, s .short);
         within = s .within;
         reading = record { position = 0; formed = unfold formedFrom in rw (z, none) };
         sound = s .sound;
@@ -256,6 +272,6 @@ advanced-place {c} {o} p h s z e n =
     let i = o .place in
     let m = o .places - 1 in
     let next : around (placeCount c) p m ≡ around (placeCount c) (i + 1) m = rw h (around-mod (placeCount c) (i + 1) m) in
-    entry-stands c o (placeAt c i) (placeAt c i + blockSize c) 0 p m s (place-entered s n) (rw h (mod-lt (i + 1) (omega (arith, s .shaped .countLow))))
+    entry-stands c o (placeAt c i) (placeAt c i + blockSize c) 0 p m s (place-entered s n) (omega arith) (rw h (mod-lt (i + 1) (omega (arith, s .shaped .countLow))))
     (rw next (place-block c i _ (rw (left s n) at (s .sound)) .1))
     (over c o z e ∙ rw (left s n, next) (unfold pairsAt pairs in rw (place-rest c i)))

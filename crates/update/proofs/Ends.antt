@@ -69,68 +69,76 @@ work-next c b f wc wb a ready on =
     rw (configuration-size c r f m ready (a .free), remains-next c b f wc wb (a .inOrder) ready (a .free) on)
     (omega (arith, next-range c r, next-range (written c r 3) (drop (fitting (blockSize c) 0 r) r)))
 
--- the claim for n steps
-abbrev Ends : List ℕ → ℕ → List ℕ → Type 0
-Ends b n d = Words d → judged d ≡ 0 → work d b ≤ n → refusedWithin n d b ≡ false → finishesWithin n d b ≡ true
+-- what a step leaves that does not finish the pass: a sound card of words with less of it
+pub record Going (c d b : List ℕ) : Type 0 where
+  pub words : Words d
+  pub sound : judged d ≡ 0
+  pub less : work d b < work c b
 
--- the write w finishes the pass
-abbrev lastWrite : List ℕ → List ℕ → ℕ → Bool
-lastWrite c r w = eqb w 3 && not (goesOn (blockSize c) r)
-
--- one step of it
-turn : (c b : List ℕ) (n : ℕ) → Facts c → Words c → Words b → Accepted c b → ((d : List ℕ) → Ends b n d) → work c b ≤ suc n →
-    let r = remains c b in
-    let w = nextWrite c r in
-    (not (lastWrite c r w) && refusedWithin n (written c r w) b) ≡ false →
-    (lastWrite c r w || finishesWithin n (written c r w) b) ≡ true
-unfolding theWrite
-turn c b n f wc wb a ih l = by-next-write c r P first second third refl
+pub going : (c b : List ℕ) → Words c → Words b → stepNumber c b ≡ 0 → step c b .finished ≡ false → Going c (step c b .card) b
+unfolding taken theWrite
+going c b wc wb z = rw (step-taken c b z) (by-next-write c r P first second third refl)
   where
     r : List ℕ
     r = remains c b
+
+    a : Accepted c b
+    a = accepted c b z
+
+    f : Facts c
+    f = facts c (a .sound)
 
     m : Remaining c r
     m = remaining c b f wc wb (a .inOrder)
 
     P : ℕ → Type 0
-    P w = nextWrite c r ≡ w → (not (lastWrite c r w) && refusedWithin n (written c r w) b) ≡ false →
-        (lastWrite c r w || finishesWithin n (written c r w) b) ≡ true
+    P w = nextWrite c r ≡ w → (eqb w 3 && not (goesOn (blockSize c) r)) ≡ false → Going c (written c r w) b
 
     first : 0 < length r → P 1
     first h e q =
         let d = written-first-alike c r f in
-        ih (written c r 1) (written-first-words c r f wc (m .proper)) (judged-alike c (written c r 1) d ∙ a .sound)
-        (omega (arith, work-alike c (written c r 1) b d (rw e (next-first c r f)))) q
+        record {
+          words = written-first-words c r f wc (m .proper);
+          sound = judged-alike c (written c r 1) d ∙ a .sound;
+          less = work-alike c (written c r 1) b d (rw e (next-first c r f));
+        }
 
     second : 0 < length r → place c (duePlace c) ≡ dueBlock c r → P 2
     second h p e q =
         let d = written-second-alike c r f in
-        ih (written c r 2) (written-second-words c r f wc (m .proper) h) (judged-alike c (written c r 2) d ∙ a .sound)
-        (omega (arith, work-alike c (written c r 2) b d (rw (e, next-second c r f p) (omega arith)))) q
+        record {
+          words = written-second-words c r f wc (m .proper) h;
+          sound = judged-alike c (written c r 2) d ∙ a .sound;
+          less = work-alike c (written c r 2) b d (rw (e, next-second c r f p) (omega arith));
+        }
 
     third : (0 < length r → DueWritten c r) → P 3
-    third ready e = go (goesOn (blockSize c) r) refl
-      where
-        go : (t : Bool) → goesOn (blockSize c) r ≡ t → (not (not t) && refusedWithin n (written c r 3) b) ≡ false →
-            (not t || finishesWithin n (written c r 3) b) ≡ true
-        go true on q =
-            ih (written c r 3) (configuration-words c r f m ready (a .free) wc) (configuration-sound c r f m ready (a .free))
-            (omega (arith, work-next c b f wc wb a ready on)) q
-        go false on q = refl
+    third ready e q =
+        record {
+          words = configuration-words c r f m ready (a .free) wc;
+          sound = configuration-sound c r f m ready (a .free);
+          less = work-next c b f wc wb a ready (not-false (goesOn (blockSize c) r) q);
+        }
 
 -- of the steps that the work left asks for, one finishes the pass
-pub ends : (n : ℕ) (c b : List ℕ) → Words b → Ends b n c
-unfolding finishesWithin refusedWithin taken
-ends zero c b wb wc j l q = absurd (let h : 1 ≤ work c b = work-some c b in omega arith)
-ends (suc n) c b wb wc j l q =
-    let number : step c b .number ≡ 0 = eqb-true (step c b .number) 0 (not-false (eqb (step c b .number) 0) (or-left _ _ q)) in
-    let zero : stepNumber c b ≡ 0 = sym (step-number c b) ∙ number in
-    let e : step c b ≡ taken c (remains c b) (nextWrite c (remains c b)) = step-taken c b zero in
-    let rest : (not (step c b .finished) && refusedWithin n (step c b .card) b) ≡ false = or-right (not (eqb (step c b .number) 0)) _ q in
-    rw e (turn c b n (facts c j) wc wb (accepted c b zero) (λ d. ends n d b wb) l (rw e at rest))
+ends : (n : ℕ) (c b : List ℕ) → Words b → Words c → work c b ≤ n → refusedWithin n c b ≡ false → finishesWithin n c b ≡ true
+unfolding finishesWithin refusedWithin
+ends zero c b wb wc l q = absurd (let h : 1 ≤ work c b = work-some c b in omega arith)
+ends (suc n) c b wb wc l q = go (λ w i. ends n d b wb w i) (step c b .finished) refl (or-right (not (eqb (step c b .number) 0)) _ q)
+  where
+    d : List ℕ
+    d = step c b .card
+
+    number : step c b .number ≡ 0
+    number = eqb-true (step c b .number) 0 (not-false (eqb (step c b .number) 0) (or-left _ _ q))
+
+    go : (Words d → work d b ≤ n → refusedWithin n d b ≡ false → finishesWithin n d b ≡ true) →
+        (t : Bool) → step c b .finished ≡ t → (not t && refusedWithin n d b) ≡ false → (t || finishesWithin n d b) ≡ true
+    go ih true e rest = refl
+    go ih false e rest = let g = going c b wc wb (sym (step-number c b) ∙ number) e in ih (g .words) (omega arith) rest
 
 -- within the step limit
 pub pass-finishes : (c b : List ℕ) → Words c → Words b → judged c ≡ 0 →
     let n = stepLimit (blockSize c) (remains c b) in
     refusedWithin n c b ≡ false → finishesWithin n c b ≡ true
-pass-finishes c b wc wb j q = ends (stepLimit (blockSize c) (remains c b)) c b wb wc j (work-limit c b) q
+pass-finishes c b wc wb j q = ends (stepLimit (blockSize c) (remains c b)) c b wb wc (work-limit c b) q

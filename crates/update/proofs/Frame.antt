@@ -8,7 +8,7 @@ use Rattle.card.specs.Layout.{blockSize, placeCount, oldStart, oldLength, newLe
 use Rattle.card.proofs.Frame.{SameAt, Alike, word-alike, boundary-alike, oldPlaces-alike, live-alike}
 use Rattle.update.specs.Step.{remains, spent, nextBoundary, freed, grown, dueBlock, crowded}
 
-spent-same : (c d : List ℕ) (k : ℕ) (is : List ℕ) → Each (SameAt c d) is → spent d k is ≡ spent c k is
+pub spent-same : (c d : List ℕ) (k : ℕ) (is : List ℕ) → Each (SameAt c d) is → spent d k is ≡ spent c k is
 unfolding spent
 spent-same c d k [] s = refl
 spent-same c d k (i ∷ is) s = rw (s .0 .block, spent-same c d k is (s .1))

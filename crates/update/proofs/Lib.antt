@@ -1,3 +1,4 @@
+pub mod Agreement
 pub mod Blocks
 pub mod Configuration
 pub mod Segments
@@ -6,16 +7,21 @@ pub mod Cursor
 pub mod Ends
 pub mod Fills
 pub mod Frame
+pub mod FreeWrites
 pub mod Grown
 pub mod Merging
 pub mod Next
 pub mod Room
+pub mod PackedAll
 pub mod Plans
 pub mod RoomKept
+pub mod Running
 pub mod Settled
 pub mod Skipping
 pub mod Spent
 pub mod Steps
+pub mod Sweeping
+pub mod Tallying
 pub mod Values
 pub mod Writes
 pub mod Copying

@@ -23,7 +23,7 @@ use Rattle.card.proofs.Facts.{Facts}
 use Rattle.card.proofs.Live.{place-words}
 use Rattle.card.proofs.Ordered.{shaped}
 use Rattle.update.specs.declared.old.OldCursor.{OldCursor}
-use Rattle.update.specs.code.Old.{coming, pending, Stands, Advanced, Skipped, beforeFirst}
+use Rattle.update.specs.code.Old.{coming, pending, Stands, Advanced, Skipped, beforeFirst, Freeing}
 use Rattle.update.specs.Step.{spent}
 use Rattle.update.proofs.Cursor.{place-block}
 
@@ -38,6 +38,7 @@ beforeFirst-stands c f =
       shaped = shaped f;
       inside = omega arith;
       ends = omega arith;
+      short = omega (arith, f .sizeLow);
       within = f .start;
       reading = record { position = 0; formed = unfold Rattle.block.specs.Block.formedFrom in refl };
       sound = f .oldSound;
@@ -81,12 +82,6 @@ skips-end {c} {o} {k} {p} s e = record { stands = s .stands; next = sym (s .same
         unfold pending in
         let l : k < p .rank = leb-false (p .rank) k g in
         rw f (above-all (p .rank ∷ coming c p) k k (omega arith) (rising-cons (p .rank) (coming c p) k l (s .stands .rising)))
-
--- the first n old places have no pair above k
-pub record Freeing (c : List ℕ) (k n : ℕ) : Type 0 where
-  pub within : n ≤ oldLength c
-  pub sound : blocksSound c (around (placeCount c) (oldStart c + n) (oldLength c - n)) ≡ true
-  pub counted : spent c k (oldPlaces c) ≡ n + spent c k (around (placeCount c) (oldStart c + n) (oldLength c - n))
 
 pub freeing-start : (c : List ℕ) (k : ℕ) → Facts c → Freeing c k 0
 freeing-start c k f =

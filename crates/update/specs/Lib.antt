@@ -1,4 +1,5 @@
 pub mod Answer
+pub mod Forecast
 pub mod Pass
 pub mod Step
 pub mod code

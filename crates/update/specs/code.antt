@@ -3,3 +3,4 @@ pub mod Due
 pub mod Merge
 pub mod Old
 pub mod Plan
+pub mod Tally

@@ -21,6 +21,7 @@ use due::Due;
 use pack::WORDS_MOST;
 
 mod due;
+pub mod forecast;
 mod merge;
 mod old;
 
@@ -128,7 +129,8 @@ fn freed(card: &[u32], k: Configuration, due: Due) -> u16
     ensures { λ r. ⌜ Freed (now (card .entry)) due r ⌝ }
 {
     if due.more {
-        return old::spent(card, due.last);
+        let spent = old::spent_from(card, 0, due.last);
+        return spent.count;
     }
     k.old_length
 }

@@ -4,10 +4,13 @@ ghost use Rattle.card.specs.Sound.{judged};
 ghost use Rattle.batch.specs.Batch.{updates, batchNumber};
 ghost use Rattle.batch.specs.code.Rounds.{roundReaches};
 ghost use Rattle.batch.specs.code.Search.{lesser};
-ghost use Rattle.update.specs.code.Merge.{Begun, Merges, Merged};
+ghost use Prim.Native.Nat.{_≤_, _<_};
+ghost use Rattle.update.specs.code.Merge.{Begun, Merges, Merged, placeAlong, Runs};
+ghost use Rattle.update.specs.code.Old.{Stands};
 use crate::old;
 use crate::old::OldCursor;
 use card::layout::Configuration;
+use pair::Pair;
 
 // A place in the merge: the rank of the pair in hand, before the first pair the boundary's, 0 at the end; the old pairs, the record from which
 // additions are sought, and the cursor of decisions.
@@ -83,5 +86,57 @@ pub(crate) fn next(card: &[u32], batch: &[u32], reaches: &[u32], merge: Merge) -
                 decisions,
             };
         }
+    }
+}
+
+// How many pairs behind the one in hand, of its entry, no record touches.
+pub(crate) fn run(card: &[u32], batch: &[u32], reaches: &[u32], merge: Merge) -> usize
+    requires { ⌜ judged (now card) ≡ 0 ⌝ }
+    requires { ⌜ batchNumber (now batch) ≡ 0 ⌝ }
+    requires { ⌜ now reaches ≡ roundReaches (updates (now batch)) ⌝ }
+    requires { ⌜ Merges (now card) (now batch) merge ⌝ }
+    requires { ⌜ 0 < merge .rank ⌝ }
+    ensures { λ r. ⌜ Runs (now (card .entry)) (now (batch .entry)) merge r ⌝ }
+{
+    let rank = merge.rank;
+    let old = merge.old;
+    let count = old.count;
+    if count == 0 {
+        return 0;
+    }
+    let in_hand = old.rank;
+    if in_hand != rank {
+        return 0;
+    }
+    let pair = Pair::of_rank(rank);
+    let of = pair.term;
+    let term = old.term;
+    if of != term {
+        return 0;
+    }
+    let to = batch::untouched(batch, reaches, merge.decisions, rank);
+    let at = old.at;
+    let end = at + count;
+    wanted::up_to(&card[at..end], to)
+}
+
+// The place at the last of so many pairs behind the one in hand.
+pub(crate) fn along(card: &[u32], merge: Merge, n: usize) -> Merge
+    requires { ⌜ Stands (now card) (merge .old) ⌝ }
+    requires { ⌜ n ≤ merge .old .count ⌝ }
+    ensures { λ r. ⌜ r ≡ placeAlong (now (card .entry)) merge n ⌝ }
+{
+    if n == 0 {
+        return merge;
+    }
+    let old = old::along(card, merge.old, n);
+    let rank = old.rank;
+    let addition = merge.addition;
+    let decisions = merge.decisions;
+    Merge {
+        rank,
+        old,
+        addition,
+        decisions,
     }
 }

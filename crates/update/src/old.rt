@@ -1,9 +1,8 @@
 // The old segment read pair by pair.
 ghost use mathlib.Core.Path.{_≡_};
-ghost use Rattle.card.specs.Layout.{oldPlaces};
 ghost use Rattle.card.specs.Sound.{judged};
-ghost use Rattle.update.specs.code.Old.{BlockEntry, entryRead, Stands, Advanced, Skipped, beforeFirst};
-ghost use Rattle.update.specs.Step.{spent};
+ghost use Prim.Native.Nat.{_≤_};
+ghost use Rattle.update.specs.code.Old.{BlockEntry, entryRead, Stands, Advanced, Skipped, beforeFirst, along, Freeing, Spends, SpentTo};
 use card::layout;
 use card::layout::Configuration;
 use pair::Pair;
@@ -22,7 +21,7 @@ pub(crate) struct OldCursor {
 }
 
 // Reads the first pair of the entry at a word.
-fn entry(card: &[u32], at: usize, end: usize, place: u16, places: u16) -> OldCursor
+pub(crate) fn entry(card: &[u32], at: usize, end: usize, place: u16, places: u16) -> OldCursor
     requires { ⌜ BlockEntry (now card) at end ⌝ }
     ensures { λ r. ⌜ r ≡ entryRead (now (card .entry)) at end place places ⌝ }
 {
@@ -119,21 +118,78 @@ pub(crate) fn skip(card: &[u32], old: OldCursor, rank: u64) -> OldCursor
     o
 }
 
-// How many leading old places have no pair above a rank.
-pub(crate) fn spent(card: &[u32], rank: u64) -> u16
+// The cursor so many positions further in its entry.
+pub(crate) fn along(card: &[u32], old: OldCursor, n: usize) -> OldCursor
+    requires { ⌜ Stands (now card) old ⌝ }
+    requires { ⌜ n ≤ old .count ⌝ }
+    ensures { λ r. ⌜ r ≡ along (now (card .entry)) old n ⌝ }
+{
+    if n == 0 {
+        return old;
+    }
+    let place = old.place;
+    let places = old.places;
+    let end = old.end;
+    let term = old.term;
+    let count = old.count - n;
+    let at = old.at + n;
+    let pair = Pair {
+        term,
+        position: card[at - 1],
+    };
+    OldCursor {
+        place,
+        places,
+        at,
+        end,
+        term,
+        count,
+        rank: pair.rank(),
+    }
+}
+
+// Leading old places with no pair above a rank: how many, and the last pair of the place behind them, 0 where it is not known.
+pub(crate) struct Spent {
+    pub(crate) count: u16,
+    pub(crate) last: u64,
+}
+
+pub(crate) const UNSPENT: Spent = Spent { count: 0, last: 0 };
+
+// The leading old places with no pair above a rank; the first so many have none.
+pub(crate) fn spent_from(card: &[u32], from: u16, rank: u64) -> Spent
     requires { ⌜ judged (now card) ≡ 0 ⌝ }
-    ensures { λ r. ⌜ r ≡ spent (now (card .entry)) rank (oldPlaces (now (card .entry))) ⌝ }
+    requires { ⌜ Freeing (now card) rank from ⌝ }
+    ensures { λ r. ⌜ SpentTo (now (card .entry)) rank r ⌝ }
 {
     let k = Configuration::of(card);
     let start = k.old_start;
     let len = k.old_length;
-    let mut n: u16 = 0;
+    let mut n = from;
     while n < len {
         let block = block::scan(layout::place(card, k.place_on(start, n)));
-        if rank < block.last {
-            return n;
+        let last = block.last;
+        if rank < last {
+            return Spent { count: n, last };
         }
         n += 1;
     }
-    n
+    Spent { count: n, last: 0 }
+}
+
+// The same from those with no pair above a lower rank; no block is scanned again.
+pub(crate) fn spent_on(card: &[u32], spent: Spent, rank: u64) -> Spent
+    requires { ⌜ judged (now card) ≡ 0 ⌝ }
+    requires { ⌜ Spends (now card) rank spent ⌝ }
+    ensures { λ r. ⌜ SpentTo (now (card .entry)) rank r ⌝ }
+{
+    let count = spent.count;
+    let last = spent.last;
+    if last == 0 {
+        return spent_from(card, count, rank);
+    }
+    if rank < last {
+        return spent;
+    }
+    spent_from(card, count + 1, rank)
 }

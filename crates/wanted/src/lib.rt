@@ -14,7 +14,7 @@ pub struct Part {
 const NOTHING: Part = Part { start: 0, len: 0 };
 
 // How many of the rising positions are at most the bound. None or all are told by the first or the last of them alone.
-fn up_to(positions: &[u32], bound: u32) -> usize
+pub fn up_to(positions: &[u32], bound: u32) -> usize
     ensures { λ r. ⌜ UpTo (now (positions .entry)) bound r ⌝ }
 {
     let len = positions.len();

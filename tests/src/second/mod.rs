@@ -3,6 +3,7 @@
 
 pub mod batch;
 pub mod block;
+pub mod forecast;
 pub mod history;
 pub mod judge;
 pub mod layout;
@@ -13,6 +14,7 @@ pub mod scores;
 pub mod step;
 
 pub use batch::{applied, judge_batch};
+pub use forecast::{forecast, ForecastAnswer};
 pub use history::History;
 pub use judge::judge;
 pub use layout::{card_words, format, live_pairs, Configuration, Pair, HIGHEST, LOWEST};

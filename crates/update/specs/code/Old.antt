@@ -1,5 +1,5 @@
 -- The old segment read pair by pair: what is still to come after a place in it.
-use Prim.Native.Nat.{ℕ, _+_, _-_, _≤_, _<_}
+use Prim.Native.Nat.{ℕ, zero, suc, _+_, _-_, _%_, _≤_, _<_}
 use mathlib.Core.Path.{_≡_}
 use mathlib.Core.Bool.{true, cond}
 use mathlib.Core.List.{List, [], _∷_, _++_}
@@ -8,10 +8,13 @@ use lib.Dec.{eqb}
 use Rattle.pair.specs.Rank.{rank}
 use Rattle.pair.specs.Rising.{above, risingFrom}
 use Rattle.block.specs.Block.{pairsFrom, formedFrom}
-use Rattle.card.specs.Layout.{placeCount, oldStart, oldLength, around, pairsAt}
+use Rattle.block.specs.code.Scan.{scanned}
+use Rattle.card.specs.Layout.{blockSize, placeCount, oldStart, oldLength, place, around, oldPlaces, pairsAt}
 use Rattle.card.specs.code.Configuration.{Shaped}
 use Rattle.card.specs.Sound.{blocksSound}
 use Rattle.update.specs.declared.old.OldCursor.{OldCursor}
+use Rattle.update.specs.declared.old.Spent.{Spent}
+use Rattle.update.specs.Step.{spent}
 
 -- the words of a block from the word at on
 abbrev pub rest : List ℕ → ℕ → ℕ → List ℕ
@@ -58,6 +61,7 @@ pub record Stands (c : List ℕ) (o : OldCursor) : Type 0 where
   pub shaped : Shaped c
   pub inside : o .at ≤ o .end
   pub ends : o .end ≤ length c
+  pub short : o .end + 3 ≤ o .at + blockSize c
   pub within : o .place < placeCount c
   pub reading : Reading c (o .at) (o .end) (o .term) (o .count)
   pub sound : blocksSound c (around (placeCount c) (o .place) (o .places)) ≡ true
@@ -72,3 +76,42 @@ pub record Advanced (c : List ℕ) (o r : OldCursor) : Type 0 where
 pub record Skipped (c : List ℕ) (o : OldCursor) (k : ℕ) (r : OldCursor) : Type 0 where
   pub stands : Stands c r
   pub next : pending c r ≡ above k (pending c o)
+
+-- another position of the term in hand
+abbrev pub positionOn : List ℕ → OldCursor → OldCursor
+positionOn c o =
+    record {
+      place = o .place;
+      places = o .places;
+      at = o .at + 1;
+      end = o .end;
+      term = o .term;
+      count = o .count - 1;
+      rank = rank (o .term) (getD c (o .at) 0);
+    }
+
+-- n of them
+unfoldable pub along : List ℕ → OldCursor → ℕ → OldCursor
+along c o zero = o
+along c o (suc n) = positionOn c (along c o n)
+
+-- the first n old places have no pair above k
+pub record Freeing (c : List ℕ) (k n : ℕ) : Type 0 where
+  pub within : n ≤ oldLength c
+  pub sound : blocksSound c (around (placeCount c) (oldStart c + n) (oldLength c - n)) ≡ true
+  pub counted : spent c k (oldPlaces c) ≡ n + spent c k (around (placeCount c) (oldStart c + n) (oldLength c - n))
+
+-- where the last pair of the place behind those that are spent is told, it is that
+pub record Known (c : List ℕ) (s : Spent) : Type 0 where
+  pub inside : 0 < s .last → s .count < oldLength c
+  pub is : 0 < s .last → s .last ≡ scanned (place c ((oldStart c + s .count) % placeCount c)) .last
+
+-- they are some of those with no pair above k
+pub record Spends (c : List ℕ) (k : ℕ) (s : Spent) : Type 0 where
+  pub freeing : Freeing c k (s .count)
+  pub known : Known c s
+
+-- and all of them
+pub record SpentTo (c : List ℕ) (k : ℕ) (s : Spent) : Type 0 where
+  pub spends : Spends c k s
+  pub count : s .count ≡ spent c k (oldPlaces c)

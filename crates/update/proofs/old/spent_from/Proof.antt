@@ -1,4 +1,4 @@
--- `update::old::spent` meets its contract. The invariant, Freeing: the first n old places have no pair above the rank.
+-- `update::old::spent_from` meets its contract. The invariant, Freeing: the first n old places have no pair above the rank.
 use Prim.Native.Nat.{_+_, _-_, _%_, _<_}
 use native.Mathlib.Omega.{arith}
 use mathlib.Core.Path.{_≡_, ap, _∙_}
@@ -9,19 +9,20 @@ use Rattle.card.specs.Layout.{placeCount, oldStart, oldLength, place}
 use Rattle.card.specs.code.Configuration.{Ordered}
 use Rattle.card.proofs.Facts.{facts}
 use Rattle.card.proofs.Ordered.{ordered-sound, place-on}
-use Rattle.update.proofs.Skipping.{Freeing, freeing-start, freeing-turn, freeing-stop, freeing-end}
+use Rattle.update.specs.code.Old.{Freeing, Known}
+use Rattle.update.proofs.Skipping.{freeing-turn, freeing-stop, freeing-end}
 use borrow.Author.Needs.{needs}
-use Rattle.update.proofs.old.spent.Statement.{statement}
-use Rattle.update.proofs.old.spent.Tie as tie
+use Rattle.update.proofs.old.spent_from.Statement.{statement}
+use Rattle.update.proofs.old.spent_from.Tie as tie
 
 abbrev Inv-loop : tie.InvT-loop
-Inv-loop card rank k start len n₀ n = Freeing card rank n
+Inv-loop card from rank k start len n₀ n = Freeing card rank n
 
 abbrev μ-loop : tie.MeasureT-loop
-μ-loop card rank k start len n₀ n = len - n
+μ-loop card from rank k start len n₀ n = len - n
 
 in-order : (c : tie.At-loop Inv-loop μ-loop) → Ordered (c .before .before .before .args .card .now) (c .before .of .result)
-in-order c = ordered-sound (facts _ (c .before .before .before .pre)) (c .before .of .ensures)
+in-order c = ordered-sound (facts _ (c .before .before .before .pre .0)) (c .before .of .ensures)
 
 words : (c : tie.At-loop Inv-loop μ-loop) → Words (c .before .before .before .args .card .now)
 unfolding Words
@@ -42,7 +43,7 @@ of-requires : tie.Need-of-requires Inv-loop μ-loop
 of-requires c κs = search needs
 
 loop-holds : tie.Need-loop-holds Inv-loop μ-loop
-loop-holds c = freeing-start _ _ (facts _ (c .before .before .pre))
+loop-holds c = c .before .before .pre .1
 
 place-on-requires : tie.Need-place-on-requires Inv-loop μ-loop
 place-on-requires c κs = search needs
@@ -54,7 +55,15 @@ scan-requires : tie.Need-scan-requires Inv-loop μ-loop
 scan-requires c κs = search needs
 
 returns : tie.Need-returns Inv-loop μ-loop
-returns c = let s = c .before .before in let t = s .before .before .before in freeing-stop (t .before .loop .inv) (inside t) (words (t .before)) (rw (found s) at (c .if1 .taken))
+returns c =
+    let s = c .before in
+    let t = s .before .before .before in
+    let l = inside t in
+    let i = t .before .loop .inv in
+    record {
+      spends = record { freeing = i; known = record { inside = λ h. l; is = λ h. found s } };
+      count = freeing-stop i l (words (t .before)) (rw (found s) at (c .if1 .taken));
+    }
 
 add-n : tie.Need-add-n Inv-loop μ-loop
 add-n c = search needs
@@ -63,13 +72,18 @@ loop-less : tie.Need-loop-less Inv-loop μ-loop
 loop-less c = search needs
 
 loop-again : tie.Need-loop-again Inv-loop μ-loop
-loop-again c = let s = c .before .before in let t = s .before .before .before in freeing-turn (t .before .loop .inv) (inside t) (words (t .before)) (rw (found s) at (c .if1 .left))
+loop-again c = let s = c .before in let t = s .before .before .before in freeing-turn (t .before .loop .inv) (inside t) (words (t .before)) (rw (found s) at (c .if1 .left))
 
 returns-2 : tie.Need-returns-2 Inv-loop μ-loop
-returns-2 c = let l = c .before in freeing-end (l .loop .inv) (rw (in-order l .ofOld) at (c .loop-test .left))
+returns-2 c =
+    let l = c .before in
+    record {
+      spends = record { freeing = l .loop .inv; known = record { inside = λ h. absurd (omega arith); is = λ h. absurd (omega arith) } };
+      count = freeing-end (l .loop .inv) (rw (in-order l .ofOld) at (c .loop-test .left));
+    }
 
-pub spent-spec : {M : Type 1} → statement M
-spent-spec =
+pub spent-from-spec : {M : Type 1} → statement M
+spent-from-spec =
     tie.close
     (tie.spec
     Inv-loop
