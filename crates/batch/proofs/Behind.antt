@@ -2,17 +2,17 @@
 use Prim.Native.Nat.{ℕ, zero, suc, min, _+_, _*_, _-_, _/_, _≤_, _<_}
 use native.Mathlib.Omega.{arith}
 use mathlib.Core.Path.{_≡_, refl, sym, subst, _∙_}
-use mathlib.Core.Bool.{Bool, true, false, cond, _&&_, _||_, not}
+use mathlib.Core.Bool.{Bool, true, false, cond, _||_, not}
 use mathlib.Core.List.{List, [], _∷_}
 use lib.ListN.{length, drop, getD}
 use lib.Dec.{ltb, leb, eqb}
-use borrow.Author.Tests.{ltb-true, ltb-false, lt-ltb, le-ltb, leb-true, leb-false, le-leb, lt-leb, eqb-true, eqb-false, eq-eqb, ne-eqb}
-use Rattle.pair.specs.Rank.{wordLimit, rank, term, position, Words}
+use borrow.Author.Tests.{ltb-true, ltb-false, lt-ltb, leb-true, leb-false, le-leb, lt-leb, eqb-true, eqb-false, ne-eqb}
+use Rattle.pair.specs.Rank.{rank, term, position, Words}
 use Rattle.pair.proofs.Search.{Halved}
 use Rattle.batch.specs.declared.Cursor.{Cursor}
-use Rattle.batch.specs.Batch.{Update, updates, anyUpdate, covers, removes, adds, batchNumber, falls}
+use Rattle.batch.specs.Batch.{Update, updates, anyUpdate, covers, removes, adds, batchNumber}
 use Rattle.batch.specs.code.Rounds.{starts, roundReaches, stands, begun, reached}
-use Rattle.batch.specs.code.Search.{recordAt, startingTo, addedWith, addedOf, behind, passedTo, start, asked, Follows}
+use Rattle.batch.specs.code.Search.{recordAt, startingTo, addedWith, addedOf, behind, passedTo, asked, Follows}
 use Rattle.batch.specs.code.Untouched.{highestPosition, beforeRecord, beforeRound, untouched, quietBefore}
 use Rattle.batch.proofs.Annulling.{rounds-few, begun-most, place-halved}
 use Rattle.batch.proofs.Decisions.{any-removes, rounds-reached, asked-facts}

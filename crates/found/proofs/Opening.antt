@@ -12,7 +12,7 @@ use Rattle.pair.specs.Rising.{keep, above, within}
 use Rattle.pair.proofs.Keep.{keep-append, keep-same, keep-keep, length-keep}
 use Rattle.block.specs.Block.{pairs, wordsBefore}
 use Rattle.wanted.specs.code.Wanted.{isWanted}
-use Rattle.card.specs.Layout.{blockSize, placeCount, oldStart, oldLength, newLength, boundary, placeAt, place, around, oldPlaces, newPlaces, pairsAt, live}
+use Rattle.card.specs.Layout.{placeCount, oldStart, oldLength, newLength, boundary, placeAt, place, around, oldPlaces, newPlaces, pairsAt, live}
 use Rattle.card.specs.code.Configuration.{ConfigurationOf, placeOn, Ordered}
 use Rattle.card.specs.declared.layout.Configuration.{Configuration}
 use Rattle.card.proofs.Circle.{length-around}

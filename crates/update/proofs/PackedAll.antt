@@ -1,5 +1,5 @@
 -- All that remains is packed: one pair of the merge after the other, each with the run behind it.
-use Prim.Native.Nat.{ℕ, zero, suc, _+_, _*_, _-_, _/_, _≤_, _<_, zero-le}
+use Prim.Native.Nat.{ℕ, zero, suc, _+_, _-_, _≤_, _<_, zero-le}
 use native.Mathlib.Omega.{arith}
 use mathlib.Core.Path.{_≡_, refl, sym, ap, subst, _∙_}
 use mathlib.Core.Bool.{Bool, true, false, cond, not}
@@ -9,7 +9,7 @@ use lib.Seq.{drop-append-seam}
 use lib.Dec.{ltb, eqb}
 use borrow.Author.Tests.{eqb-true, ne-eqb}
 use Rattle.pair.specs.Rank.{term, Proper, Words}
-use Rattle.pair.specs.Rising.{Each, above, risingFrom, last, keep}
+use Rattle.pair.specs.Rising.{Each, above, last, keep}
 use Rattle.pair.proofs.Keep.{length-keep}
 use Rattle.pair.proofs.Parts.{Each-above}
 use Rattle.pair.proofs.Rising.{rising-first, rising-above}

@@ -1,14 +1,13 @@
 -- A run of old pairs that no record touches: the merge goes over them as they stand.
 use Prim.Native.Nat.{ℕ, zero, suc, _+_, _-_, _≤_, _<_, zero-le}
 use native.Mathlib.Omega.{arith}
-use native.Mathlib.Nat.{add-zero}
 use mathlib.Core.Path.{_≡_, refl, sym, ap, subst, _∙_}
-use mathlib.Core.Bool.{Bool, true, false, cond, _&&_}
+use mathlib.Core.Bool.{Bool, true, false, _&&_}
 use mathlib.Core.List.{List, [], _∷_, _++_, append-assoc}
 use lib.ListN.{length, take, drop, getD, length-take}
 use lib.Seq.{getD-take, getD-drop, take-take}
 use mathlib.Core.Logic.{_⊎_, inl, inr}
-use lib.Dec.{leb, eqb}
+use lib.Dec.{leb}
 use borrow.Author.Tests.{ne-eqb, le-ltb, leb-true, leb-false}
 use Rattle.pair.specs.Rank.{rank, term, position, Words}
 use Rattle.pair.specs.Rising.{keep, above, risingFrom, last}

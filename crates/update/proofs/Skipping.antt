@@ -17,7 +17,6 @@ use Rattle.block.specs.Block.{pairs, formed}
 use Rattle.block.specs.code.Scan.{scanned}
 use Rattle.block.proofs.Reading.{formed-rising}
 use Rattle.card.specs.Layout.{placeCount, oldStart, oldLength, place, around, oldPlaces, pairsAt}
-use Rattle.card.specs.Sound.{blocksSound}
 use Rattle.card.proofs.Circle.{around-cons}
 use Rattle.card.proofs.Facts.{Facts}
 use Rattle.card.proofs.Live.{place-words}

@@ -1,15 +1,15 @@
 -- Whole entries that no record touches, packed one after the other.
-use Prim.Native.Nat.{ℕ, zero, suc, _+_, _-_, _≤_, _<_, zero-le}
+use Prim.Native.Nat.{ℕ, zero, suc, _+_, _-_, _≤_, _<_}
 use native.Mathlib.Omega.{arith}
 use mathlib.Core.Path.{_≡_, refl, subst, _∙_}
 use mathlib.Core.Bool.{Bool, true, false}
-use mathlib.Core.List.{List, [], _∷_}
+use mathlib.Core.List.{List}
 use lib.ListN.{length, take, drop, getD, length-take, length-drop}
 use lib.Seq.{getD-take, getD-drop}
 use lib.Dec.{ltb, leb}
 use borrow.Author.Tests.{leb-true, leb-false}
 use Rattle.pair.specs.Rank.{rank, term, position, Words}
-use Rattle.pair.specs.Rising.{above, atMost, risingFrom}
+use Rattle.pair.specs.Rising.{above}
 use Rattle.pair.proofs.Keep.{length-keep}
 use Rattle.pair.proofs.Parts.{above-further}
 use Rattle.pair.proofs.Rising.{rising-head}

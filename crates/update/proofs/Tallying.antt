@@ -1,21 +1,21 @@
 -- The blocks that what remains fills, counted one after the other: what a block more tells, and what becomes of the block in hand.
-use Prim.Native.Nat.{ℕ, zero, suc, _+_, _-_, _≤_, _<_, zero-le}
+use Prim.Native.Nat.{ℕ, zero, suc, _+_, _-_, _≤_, _<_}
 use native.Mathlib.Omega.{arith}
 use mathlib.Core.Path.{_≡_, refl, sym, ap, subst, _∙_}
 use mathlib.Core.Bool.{Bool, true, false, cond, _&&_}
-use mathlib.Core.List.{List, [], _∷_, _++_, append-assoc, append-nil}
+use mathlib.Core.List.{List, _∷_, _++_, append-assoc}
 use lib.ListN.{length, drop, getD, length-append}
 use lib.Seq.{drop-append-seam}
 use lib.Dec.{ltb, leb, eqb}
-use borrow.Author.Tests.{eqb-true, eqb-false, eq-eqb, ne-eqb, leb-true, leb-false, lt-ltb, le-ltb, le-leb, lt-leb}
+use borrow.Author.Tests.{eqb-true, eqb-false, eq-eqb, ne-eqb, leb-true, leb-false, lt-ltb, le-ltb}
 use Rattle.pair.specs.Rank.{rank, term, Proper, Words}
 use Rattle.pair.specs.Rising.{Each, risingFrom, last}
 use Rattle.pair.proofs.Each.{Each-second}
 use Rattle.pair.proofs.Rising.{rising-last, rising-first, rising-second, last-append}
-use Rattle.block.specs.Block.{cost, pairs, fitting, due, goesOn}
+use Rattle.block.specs.Block.{cost, fitting, due, goesOn}
 use Rattle.block.proofs.Filling.{size-join, fitting-full, filled-full}
 use Rattle.block.proofs.Size.{size, cost-low, size-packed}
-use Rattle.card.specs.Layout.{blockSize, placeCount, oldStart, oldLength, newLength, oldPlaces, place, around}
+use Rattle.card.specs.Layout.{blockSize, placeCount, oldStart, oldLength, newLength, oldPlaces}
 use Rattle.card.proofs.Circle.{around-drop}
 use Rattle.update.specs.declared.forecast.Filling.{Filling}
 use Rattle.update.specs.declared.forecast.Tally.{Tally}
@@ -24,8 +24,8 @@ use Rattle.update.specs.Forecast.{freeWrites}
 use Rattle.update.specs.Pass.{blocks}
 use Rattle.update.specs.Step.{spent, nextBoundary, freed}
 use Rattle.update.specs.code.Merge.{runAt}
-use Rattle.update.specs.code.Old.{Freeing, Known, Spends, SpentTo}
-use Rattle.update.specs.code.Tally.{freeWith, Closed, Told, Counts, Addable}
+use Rattle.update.specs.code.Old.{Spends}
+use Rattle.update.specs.code.Tally.{freeWith, Closed, Told, Counts}
 use Rattle.update.proofs.Blocks.{blocks-next}
 use Rattle.update.proofs.Spent.{spent-passed}
 

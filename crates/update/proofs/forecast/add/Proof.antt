@@ -1,9 +1,8 @@
 -- `update::forecast::add` meets its contract: all have room, or the pair has none, or some behind it have none.
-use Prim.Native.Nat.{ℕ, _+_, _-_, _≤_, _<_}
+use Prim.Native.Nat.{ℕ, _-_, _≤_}
 use native.Mathlib.Omega.{arith}
-use mathlib.Core.Path.{_≡_, refl, sym, ap, _∙_}
+use mathlib.Core.Path.{_≡_, refl}
 use denote.Ref.{now}
-use lib.ListN.{length}
 use Rattle.pair.specs.Rank.{term, Words}
 use Rattle.pair.specs.Rising.{last}
 use Rattle.block.specs.Block.{cost}
@@ -12,7 +11,6 @@ use Rattle.pack.proofs.Holding.{cost-high}
 use Rattle.card.specs.Layout.{blockSize}
 use Rattle.card.proofs.Facts.{facts}
 use Rattle.update.specs.code.Merge.{runAt}
-use Rattle.update.specs.code.Tally.{Addable}
 use Rattle.update.proofs.Tallying.{spends-on, run-further, counts-fit, counts-next, counts-parted}
 use borrow.Author.Needs.{needs}
 use Rattle.update.proofs.forecast.add.Statement.{statement}

@@ -1,6 +1,6 @@
 -- `update::forecast::last_of` meets its contract.
 use native.Mathlib.Omega.{arith}
-use mathlib.Core.Path.{_≡_, sym}
+use mathlib.Core.Path.{sym}
 use Rattle.pair.specs.Rising.{last}
 use Rattle.update.specs.code.Merge.{runAt}
 use Rattle.update.proofs.Running.{last-run}

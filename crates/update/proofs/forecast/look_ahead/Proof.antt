@@ -1,7 +1,6 @@
 -- `update::forecast::look_ahead` meets its contract: all blocks are counted, or all but the last.
 use native.Mathlib.Omega.{arith}
-use mathlib.Core.Path.{_≡_, refl, _∙_}
-use Rattle.card.specs.code.Configuration.{Ordered}
+use mathlib.Core.Path.{refl, _∙_}
 use Rattle.card.proofs.Facts.{facts}
 use Rattle.card.proofs.Ordered.{ordered-sound}
 use Rattle.update.proofs.PackedAll.{packed-none, packed-some}

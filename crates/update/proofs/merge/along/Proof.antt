@@ -1,9 +1,8 @@
 -- `update::merge::along` meets its contract.
 use native.Mathlib.Omega.{arith}
-use mathlib.Core.Path.{_≡_, sym}
+use mathlib.Core.Path.{sym}
 use Rattle.update.specs.code.Merge.{placeAlong}
 use Rattle.update.proofs.Running.{placeAlong-some}
-use borrow.Author.Needs.{needs}
 use Rattle.update.proofs.merge.along.Statement.{statement}
 use Rattle.update.proofs.merge.along.Tie as tie
 

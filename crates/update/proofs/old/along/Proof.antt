@@ -1,6 +1,6 @@
 -- `update::old::along` meets its contract.
 use native.Mathlib.Omega.{arith}
-use mathlib.Core.Path.{_≡_, refl, sym, _∙_}
+use mathlib.Core.Path.{sym}
 use Rattle.update.specs.code.Old.{along}
 use Rattle.update.proofs.Cursor.{positions-room}
 use Rattle.update.proofs.Running.{along-some}

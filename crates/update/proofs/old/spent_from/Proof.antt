@@ -9,7 +9,7 @@ use Rattle.card.specs.Layout.{placeCount, oldStart, oldLength, place}
 use Rattle.card.specs.code.Configuration.{Ordered}
 use Rattle.card.proofs.Facts.{facts}
 use Rattle.card.proofs.Ordered.{ordered-sound, place-on}
-use Rattle.update.specs.code.Old.{Freeing, Known}
+use Rattle.update.specs.code.Old.{Freeing}
 use Rattle.update.proofs.Skipping.{freeing-turn, freeing-stop, freeing-end}
 use borrow.Author.Needs.{needs}
 use Rattle.update.proofs.old.spent_from.Statement.{statement}

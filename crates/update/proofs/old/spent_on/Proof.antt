@@ -1,10 +1,8 @@
 -- `update::old::spent_on` meets its contract: the place behind those that are spent is looked at by its last pair, where that is known.
 use native.Mathlib.Omega.{arith}
-use mathlib.Core.Path.{_≡_}
 use Rattle.pair.specs.Rank.{Words}
 use Rattle.card.proofs.Facts.{facts}
 use Rattle.update.proofs.Skipping.{freeing-turn, freeing-stop}
-use borrow.Author.Needs.{needs}
 use Rattle.update.proofs.old.spent_on.Statement.{statement}
 use Rattle.update.proofs.old.spent_on.Tie as tie
 
