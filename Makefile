@@ -11,7 +11,7 @@ HOST_FILES = $(wildcard host/*.c)
 HOST_HEADERS = $(wildcard host/*.h)
 BENCH_FILES = bench/bench.c bench/bench.h
 BENCH_CC = $(CC) $(WARNINGS) -O3 -Iinclude -Ibench
-TEST_FILES = tests/c/test_gameindex.c tests/c/format_judge.c tests/c/step.c tests/c/forecast.c tests/c/lookup.c tests/c/page.c tests/c/scores.c
+TEST_FILES = tests/c/test_gameindex.c tests/c/format_judge.c tests/c/step.c tests/c/forecast.c tests/c/lookup.c tests/c/page.c tests/c/scores.c tests/c/cases.c tests/c/arrival.c
 C_FILES = $(wildcard include/*.h host/*.[ch] tests/c/*.[ch] bench/*.[ch])
 
 .DELETE_ON_ERROR:
@@ -21,15 +21,15 @@ help:
 	@echo 'make run     build the library and the host program; make a card, apply a batch and a text file, annul, look up, print'
 	@echo 'make test    run the merge gate, .ci/run'
 	@echo 'make pins    write tests/pins anew, which the gate holds the source to; read its diff'
-	@echo 'make bench   time the judge, forecasts, lookups, pages and scores against plain C, steps against the judge'
+	@echo 'make bench   time the judge, steps, forecasts, lookups, pages and scores against plain C, and most against the judge'
 	@echo 'make fmt     format Rattle, Rust and C files'
 	@echo 'make clean   remove all that was built'
 
-# additions of (5,2), (5,9), (7,4), (8,1) and the removal of 6 from 1 to 9; as text, the removal of 8 from 1 to 9, the addition of (5,4), and a
-# removal with no game in it; then the removal of 4 to 9 under every term
+# additions of (5,2), (5,9), (7,4), (8,1) and the removal of 6 from 1 to 9; as text, the removal of 8 from 1 to 9, the addition of (5,4), one of
+# (6,1) that is taken back, and a removal with no game in it; then the removal of 4 to 9 under every term
 run: target/gameindex
 	rm -f target/demo.card
-	tests/c/words.sh  1 5 2 2  1 5 9 9  2 6 1 9  1 7 4 4  1 8 1 1 >target/demo.batch
+	tests/c/words.sh  1 5 2 2 1  1 5 9 9 2  2 6 1 9 3  1 7 4 4 4  1 8 1 1 5 >target/demo.batch
 	target/gameindex format target/demo.card 8 4
 	target/gameindex apply target/demo.card target/demo.batch
 	target/gameindex judge target/demo.card
@@ -37,9 +37,10 @@ run: target/gameindex
 	target/gameindex lookup target/demo.card 5
 	target/gameindex lookup target/demo.card 8 2 9
 	target/gameindex page target/demo.card 5
-	printf 'R\t8\t1\t9\nA\t5\t4\nR\t7\t9\t3\n' >target/demo.scores
+	printf 'R\t8\t1\t9\nA\t5\t4\nA\t6\t1\nR\t6\t1\t1\nR\t7\t9\t3\n' >target/demo.scores
 	target/gameindex apply --text target/demo.card target/demo.scores
 	target/gameindex page target/demo.card 5
+	target/gameindex lookup target/demo.card 6
 	target/gameindex page target/demo.card 7
 	target/gameindex annul target/demo.card 4 9
 	target/gameindex page target/demo.card 5
@@ -96,11 +97,11 @@ target/test_gameindex: $(TEST_FILES) tests/c/small_cards.h $(HEADER) $(LIBRARY)
 target/bench_judge: bench/judge.c bench/judge_c.c bench/judge_c.h $(BENCH_FILES) $(HEADER) $(LIBRARY)
 	$(BENCH_CC) -o $@ bench/judge.c bench/judge_c.c bench/bench.c $(LIBRARY)
 
-target/bench_step: bench/step.c $(BENCH_FILES) $(HEADER) $(LIBRARY)
-	$(BENCH_CC) -o $@ bench/step.c bench/bench.c $(LIBRARY)
+target/bench_step: bench/step.c bench/step_c.c bench/step_c.h bench/walk_c.h bench/judge_c.c bench/judge_c.h $(BENCH_FILES) $(HEADER) $(LIBRARY)
+	$(BENCH_CC) -o $@ bench/step.c bench/step_c.c bench/judge_c.c bench/bench.c $(LIBRARY)
 
-target/bench_batches: bench/batches.c bench/forecast_c.c bench/forecast_c.h bench/judge_c.c bench/judge_c.h $(BENCH_FILES) $(HEADER) $(LIBRARY)
-	$(BENCH_CC) -o $@ bench/batches.c bench/forecast_c.c bench/judge_c.c bench/bench.c $(LIBRARY)
+target/bench_batches: bench/batches.c bench/forecast_c.c bench/forecast_c.h bench/step_c.c bench/step_c.h bench/walk_c.h bench/judge_c.c bench/judge_c.h $(BENCH_FILES) $(HEADER) $(LIBRARY)
+	$(BENCH_CC) -o $@ bench/batches.c bench/forecast_c.c bench/step_c.c bench/judge_c.c bench/bench.c $(LIBRARY)
 
 target/bench_lookup: bench/lookup.c bench/lookup_c.c bench/lookup_c.h $(BENCH_FILES) $(HEADER) $(LIBRARY)
 	$(BENCH_CC) -o $@ bench/lookup.c bench/lookup_c.c bench/bench.c $(LIBRARY)

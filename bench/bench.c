@@ -201,8 +201,12 @@ struct holders holders_of(uint32_t *card, uint32_t term) {
 /* ---- a step undone */
 
 struct before kept(uint32_t *card) {
-    struct before words = {
-        .place = (card[GI_CONFIG_OLD_START] + card[GI_CONFIG_OLD_LENGTH] + card[GI_CONFIG_NEW_LENGTH]) % PLACES};
+    return kept_at(card,
+                   (card[GI_CONFIG_OLD_START] + card[GI_CONFIG_OLD_LENGTH] + card[GI_CONFIG_NEW_LENGTH]) % PLACES);
+}
+
+struct before kept_at(uint32_t *card, uint32_t place) {
+    struct before words = {.place = place};
     memcpy(words.configuration, card, sizeof words.configuration);
     memcpy(words.entry, map_entry_at(card, words.place), sizeof words.entry);
     memcpy(words.block, block_at(card, words.place), sizeof words.block);
@@ -259,6 +263,19 @@ static void zipf_records(uint32_t *card, uint32_t live, uint32_t *batch, uint32_
         record += GI_RECORD_WORDS;
     }
     qsort(batch, GI_BATCH_RECORDS_MAX, GI_RECORD_WORDS * sizeof *batch, by_term_then_from);
+    arrive_in_order(batch);
+}
+
+void arrive_in_order(uint32_t *batch) {
+    for (uint32_t i = 0; i < GI_BATCH_RECORDS_MAX; i++)
+        batch[i * GI_RECORD_WORDS + 4] = i + 1;
+}
+
+void arrive_by_chance(uint32_t *batch) {
+    /* the numbers by chance are all words but 0, each once before one comes again */
+    uint32_t state = 521288629;
+    for (uint32_t i = 0; i < GI_BATCH_RECORDS_MAX; i++)
+        batch[i * GI_RECORD_WORDS + 4] = chance(&state);
 }
 
 void zipf_batch(uint32_t *card, uint32_t live, uint32_t *batch) {

@@ -83,7 +83,8 @@ uint32_t fill_zipf(uint32_t *card, uint32_t live);
 /* Makes a batch of 4,096 records for such a card. Each is about a live pair
  * chosen by chance, so the terms follow the same law: one half adds a position
  * beside it, the other removes it and its next ones. More is removed than added
- * up to every pair, so that the full card has room for the pass. */
+ * up to every pair, so that the full card has room for the pass. The records
+ * arrive in their order. */
 void zipf_batch(uint32_t *card, uint32_t live, uint32_t *batch);
 
 /* The same with additions only. */
@@ -91,6 +92,11 @@ void zipf_additions(uint32_t *card, uint32_t live, uint32_t *batch);
 
 /* The same with 16 annulments, of 40 positions each, before them. */
 void zipf_annulments(uint32_t *card, uint32_t live, uint32_t *batch);
+
+/* Has the records of a batch of 4,096 arrive in their order, 1 to 4,096; or with
+ * different words, by chance. */
+void arrive_in_order(uint32_t *batch);
+void arrive_by_chance(uint32_t *batch);
 
 /* The words that a step may write, as they were before it. */
 struct before {
@@ -101,6 +107,10 @@ struct before {
 };
 
 struct before kept(uint32_t *card);
+
+/* The same words of a place that was due before a step. */
+struct before kept_at(uint32_t *card, uint32_t place);
+
 void put_back(uint32_t *card, const struct before *words);
 
 #endif

@@ -159,8 +159,8 @@ static int no_pass_open(const struct card_file *card, uint32_t from, uint32_t to
 }
 
 static int annul(char **words, bool resume) {
-    /* one record; its term is 0 */
-    static struct batch batch = {.words = {GI_RECORD_ANNUL, 0}, .length = GI_RECORD_WORDS};
+    /* one record; its term is 0, its arrival number 1 */
+    static struct batch batch = {.words = {GI_RECORD_ANNUL, 0, 0, 0, 1}, .length = GI_RECORD_WORDS};
     uint32_t *from = &batch.words[2];
     uint32_t *to = &batch.words[3];
     if (!parse_word(words[1], from) || !parse_word(words[2], to)) {

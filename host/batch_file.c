@@ -12,8 +12,7 @@ static bool is_standard(const char *path) {
     return strcmp(path, "-") == 0;
 }
 
-/* What messages call the file. */
-static const char *name_of(const char *path) {
+const char *batch_name(const char *path) {
     return is_standard(path) ? "standard input" : path;
 }
 
@@ -21,9 +20,9 @@ static const char *name_of(const char *path) {
 static int read_start(const char *path, unsigned char *bytes, size_t room, size_t *length) {
     FILE *in = is_standard(path) ? stdin : fopen(path, "rb");
     if (in == NULL)
-        return fault(name_of(path), "%s", strerror(errno));
+        return fault(batch_name(path), "%s", strerror(errno));
     *length = fread(bytes, 1, room, in);
-    int status = ferror(in) ? fault(name_of(path), "%s", strerror(errno)) : EXIT_DONE;
+    int status = ferror(in) ? fault(batch_name(path), "%s", strerror(errno)) : EXIT_DONE;
     if (in != stdin)
         fclose(in);
     return status;
@@ -36,7 +35,7 @@ int batch_read(struct batch *batch, const char *path) {
     if (status != EXIT_DONE)
         return status;
     if (length % WORD_BYTES != 0)
-        return fault(name_of(path), "%zu bytes are not a whole number of 32-bit words", length);
+        return fault(batch_name(path), "%zu bytes are not a whole number of 32-bit words", length);
     batch->length = length / WORD_BYTES;
     for (size_t i = 0; i < batch->length; i++)
         batch->words[i] = word_from(bytes + i * WORD_BYTES);
@@ -54,7 +53,7 @@ int scores_read(struct batch *batch, const char *path) {
     /* never too short, so that a refusal is of a line */
     size_t room = (size_t)GI_RECORD_WORDS * GI_BATCH_RECORDS_MAX;
     uint32_t number = gi_scores(bytes, length, batch->words, room, &batch->length, &line);
-    return number == GI_DONE ? EXIT_DONE : refused_line(name_of(path), line, number);
+    return number == GI_DONE ? EXIT_DONE : refused_line(batch_name(path), line, number);
 }
 
 int batch_on_card(char **words, bool writable, batch_reader *read_batch, batch_user *use) {

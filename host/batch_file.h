@@ -1,4 +1,4 @@
-/* Batches from files: the records of a batch as words, four to a record, 32 bits,
+/* Batches from files: the records of a batch as words, five to a record, 32 bits,
  * little-endian, and nothing else; or a scorekeepers' file, one record to a line of
  * text. */
 #ifndef BATCH_FILE_H
@@ -22,6 +22,9 @@ struct batch {
     uint32_t words[BATCH_FILE_WORDS_MAX];
     size_t length;
 };
+
+/* What messages call a file: its path, or standard input where that is "-". */
+const char *batch_name(const char *path);
 
 /* Reads a batch from a file of words, or from standard input where path is "-".
  * Gives EXIT_DONE, or EXIT_FAULT after saying on stderr what is wrong. */

@@ -1,6 +1,6 @@
 /* gameindex: the host program of the game index, over libgameindex.a.
  *
- * Exit status: 0 done, 1 refused (the number is shown, or that a pass is open),
+ * Exit status: 0 done, 1 refused (the number is shown, or the ground),
  * 2 a file, the output or the command line is at fault, 3 from fits alone: the
  * batch does not fit. */
 #define _POSIX_C_SOURCE 200809L
@@ -16,6 +16,7 @@
 
 #include "apply.h"
 #include "card_file.h"
+#include "convert.h"
 #include "fits.h"
 #include "gameindex.h"
 #include "lookup.h"
@@ -139,6 +140,8 @@ static const struct command commands[] = {
     {"annul", NULL, "CARD FROM TO", 3, 0, "remove a range of running numbers under every term", run_annul},
     {"annul", "--resume", "--resume CARD FROM TO", 3, 0, "go on with such an annulment that was cut short",
      run_annul_resume},
+    {"convert", NULL, "OLD NEW", 2, 0,
+     "make a batch file of one with records of four words, as earlier boxes wrote them", run_convert},
     {"lookup", NULL, "CARD TERM [FROM TO]", 2, 2, "show a term's running numbers, all or those in a range", run_lookup},
     {"page", NULL, "CARD TERM [FROM TO]", 2, 2, "write the same as a page of text, five to a line", run_page},
     {"judge", NULL, "CARD", 1, 0, "say whether the card is sound", run_judge},
@@ -148,19 +151,29 @@ static const struct command commands[] = {
 enum { COMMANDS = sizeof commands / sizeof *commands };
 
 static void usage(FILE *out) {
-    fprintf(out, "usage: gameindex COMMAND CARD ...\n\n");
+    fprintf(out, "usage: gameindex COMMAND FILE ...\n\n");
     for (int i = 0; i < COMMANDS; i++)
         fprintf(out, "  %-7s %-21s %s\n", commands[i].name, commands[i].words, commands[i].about);
     fprintf(out,
-            "\ncards and batches are files of 32-bit words, little-endian; a batch is records of four: kind (1 adds,\n"
-            "2 removes), term, from, to, by term, then from; an addition has from and to alike; kind 3, with term 0,\n"
-            "removes from from to to under every term; a removal with from above to removes nothing\n");
-    fprintf(out,
-            "\na scorekeepers' file is lines, in any order: A<tab>term<tab>position adds, R<tab>term<tab>from<tab>to "
-            "removes\n");
-    fprintf(out,
-            "\nexit status: 0 done, 1 refused (the number is shown, or that a pass is open), 2 a fault of a file,\n"
-            "the output or the command line; of fits, 0 the batch fits, 3 it does not: the card is too full\n");
+            "\ncards and batches are files of 32-bit words, little-endian; a batch is records of five: kind (1 adds,\n"
+            "2 removes), term, from, to, arrival, by term, then from; an addition has from and to alike; kind 3, with\n"
+            "term 0, removes from from to to under every term; a removal with from above to removes nothing\n");
+    fprintf(
+        out,
+        "\narrival numbers are at least 1, and no two records of a batch have the same; of all records that touch a\n"
+        "pair, the one with the greatest arrival number decides whether the pair is in the index\n");
+    fprintf(
+        out,
+        "\nearlier boxes wrote records of four words, without arrival, and there an addition won; convert makes a new\n"
+        "file of such a file, which means the same; a file of four-word records whose length is a multiple of 20\n"
+        "bytes can pass for one of five-word records, and then means something else or is refused; nothing in the\n"
+        "file tells them apart, so convert old files once, and know which are which\n");
+    fprintf(
+        out,
+        "\na scorekeepers' file is lines, the latest last: A<tab>term<tab>position adds, R<tab>term<tab>from<tab>to "
+        "removes\n");
+    fprintf(out, "\nexit status: 0 done, 1 refused (the number is shown, or the ground), 2 a fault of a file,\n"
+                 "the output or the command line; of fits, 0 the batch fits, 3 it does not: the card is too full\n");
 }
 
 /* Whether the first words are a command's name and, where it has one, its option. */

@@ -16,7 +16,8 @@ static const char *const meanings[] = {
     [GI_CARD_BLOCKS] = "a live block, its map entry or the boundary is wrong",
     [GI_FORMAT_LIMITS] = "B must be from 8 to 1,024 and N from 2 to 1,024",
     [GI_BATCH_RECORD] =
-        "the batch's length is no whole number of records, it has more than 4,096 records, or a record is ill formed",
+        "the batch's length is no whole number of five-word records, it has more than 4,096 records, or a record is "
+        "ill formed",
     [GI_BATCH_ORDER] = "the records of the batch are not in order of term, then from",
     [GI_CARD_FULL] = "the card is full: the next block would leave no place free",
     [GI_LOOKUP_RANGE] = "term and from must be at least 1, and from at most to",
@@ -26,6 +27,7 @@ static const char *const meanings[] = {
         "a line must be A<tab>term<tab>position or R<tab>term<tab>from<tab>to, ended by a line feed without "
         "a carriage return; figures have no leading zeros and are at most 4,294,967,295",
     [GI_SCORES_LINES] = "the file has more than 4,096 lines",
+    [GI_BATCH_ARRIVAL] = "an arrival number of the batch is 0, or two of its records have the same",
 };
 
 static const char *meaning(uint32_t number) {

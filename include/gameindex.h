@@ -27,14 +27,16 @@ enum {
     GI_CARD_CONFIGURATION = 3, /* configuration words outside their limits */
     GI_CARD_BLOCKS = 4,        /* a live block, its map entry or the boundary is wrong */
     GI_FORMAT_LIMITS = 5,      /* the formatter's B or N is outside its limits */
-    GI_BATCH_RECORD = 6,       /* no whole number of records, more than 4,096, or a record is ill formed */
+    GI_BATCH_RECORD = 6,       /* no whole number of records, more than 4,096, or a record is ill formed,
+                                * whatever its arrival number is */
     GI_BATCH_ORDER = 7,        /* the records are not in order of term, then from */
     GI_CARD_FULL = 8,          /* the step would leave no place free */
     GI_LOOKUP_RANGE = 9,       /* term or from is 0, or from is above to */
     GI_LOOKUP_ANSWER = 10,     /* fewer answer words than positions, or fewer words lent for a batch than it has */
     GI_PAGE_MEMORY = 11,       /* the page memory is shorter than the page */
     GI_SCORES_LINE = 12,       /* a line of a scorekeepers' file has another form, or a figure above 4,294,967,295 */
-    GI_SCORES_LINES = 13       /* the file has more than 4,096 lines */
+    GI_SCORES_LINES = 13,      /* the file has more than 4,096 lines */
+    GI_BATCH_ARRIVAL = 14      /* an arrival number is 0, or two records of the batch have the same */
 };
 
 /* The limits of a card. */
@@ -49,11 +51,18 @@ enum {
     GI_CARD_WORDS_MAX = 1050632 /* the largest card: B and N both 1,024 */
 };
 
-/* The records of a batch: kind, term, from, to. Term 0 goes with kind 3 and kind 3
- * with term 0; from and to are at least 1. A removal of either kind whose from is
- * above its to has no game in its range: it is well formed and removes nothing. */
+/* The records of a batch: kind, term, from, to, arrival. Term 0 goes with kind 3 and
+ * kind 3 with term 0; from and to are at least 1. A removal of either kind whose from
+ * is above its to has no game in its range: it is well formed and removes nothing.
+ *
+ * The arrival number is at least 1, and no two records of a batch have the same one.
+ * An addition touches its pair, a removal every pair of its range. Of all records that
+ * touch a pair, the one with the greatest arrival number decides: an addition leaves
+ * the pair in the index, a removal leaves it out. A pair that no record touches stays
+ * as it was. So the order of the records, which is by term, then from, says nothing
+ * about which of them came later. Arrival numbers need not be in a row. */
 enum {
-    GI_RECORD_WORDS = 4,
+    GI_RECORD_WORDS = 5,
     GI_BATCH_RECORDS_MAX = 4096,
     GI_RECORD_ADD = 1,    /* adds the pair of term and from; to is from again */
     GI_RECORD_REMOVE = 2, /* removes the term's positions from from to to */
@@ -116,14 +125,14 @@ uint32_t gi_format(uint32_t *card, size_t card_len, uint32_t b, uint32_t n);
 uint32_t gi_judge(const uint32_t *card, size_t card_len);
 
 /* Makes the next write of a pass that applies a batch, and tells which it was.
- * The batch is records of four words, by term, then from, never falling: the
- * index less all that they remove, with all that they add. Records of kind 3 stand
- * first, since their term is 0. The card is all that a pass remembers: call it with
- * the same batch until it says finished. Each write must be on the medium before the
- * next step's; a pass cut short anywhere goes on where it was.
+ * The batch is records of five words, by term, then from, never falling; each pair
+ * that they touch is in the index or out of it as the latest of them has it. Records
+ * of kind 3 stand first, since their term is 0. The card is all that a pass remembers:
+ * call it with the same batch until it says finished. Each write must be on the medium
+ * before the next step's; a pass cut short anywhere goes on where it was.
  *
- * Gives the judge's number for a card that is not sound; then 6, then 7 for a
- * batch that is wrong; then 8 where the write of the configuration words to come
+ * Gives the judge's number for a card that is not sound; then 6, then 14, then 7 for
+ * a batch that is wrong; then 8 where the write of the configuration words to come
  * would leave no place free. After a refusal write, freed and finished are 0 and
  * no word of the card has changed. Otherwise gives 0; write is one of the three
  * writes, and with the third, freed is the number of old places that it freed
@@ -139,8 +148,8 @@ uint32_t gi_step(uint32_t *card, size_t card_len, const uint32_t *batch, size_t 
  * where the pass finishes; writes is then 0. Where it is 0, some step is refused
  * with 8, after writes configuration writes.
  *
- * Gives the judge's number for a card that is not sound; then 6, then 7 for a batch
- * that is wrong. After such a refusal all four are 0. Otherwise gives 0. */
+ * Gives the judge's number for a card that is not sound; then 6, then 14, then 7 for a
+ * batch that is wrong. After such a refusal all four are 0. Otherwise gives 0. */
 uint32_t gi_forecast(const uint32_t *card, size_t card_len, const uint32_t *batch, size_t batch_len, uint32_t *blocks,
                      uint32_t *limit, uint32_t *finishes, uint32_t *writes);
 
@@ -216,15 +225,17 @@ uint32_t gi_page(const uint32_t *card, size_t card_len, uint32_t term, uint32_t 
 
 /* Reads a scorekeepers' file: lines of text, one record a line, its fields parted by
  * single tabs. A, a term and a position add a pair; R, a term, from and to remove the
- * term's positions from from to to. Figures are decimal, without a sign and without
- * leading zeros; 0 alone is a figure. A line ends at a line feed, which the last line
- * may lack: no bytes are no line, a line feed at the start or behind another is an
- * empty line, and a carriage return is a byte like any other.
+ * term's positions from from to to. The line's number, counted from 1, is the record's
+ * arrival number, so that a later line decides over an earlier one. Figures are
+ * decimal, without a sign and without leading zeros; 0 alone is a figure. A line ends
+ * at a line feed, which the last line may lack: no bytes are no line, a line feed at
+ * the start or behind another is an empty line, and a carriage return is a byte like
+ * any other.
  *
  * Writes the batch of these records into the first batch words, sorted by term, then
  * from, records equal in both in the order of their lines; its length in words goes
  * behind words. The words after it are left as they are. The batch goes to gi_step,
- * which judges it: a figure 0 gives 6 there.
+ * which judges it: a figure 0 gives 6 there, and no file gives 14 or 7.
  *
  * Gives 12 for a line of another form or with a figure above 4,294,967,295, and 13 for
  * the 4,097th line, whichever line comes first, and 12 where both are of one line;

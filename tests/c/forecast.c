@@ -140,14 +140,14 @@ static void case_4(void) {
     static const uint32_t start[WORDS_2] = {1, 8, 2, 0, 1, 0, 0, 0, 5, 2, 0, 0, 5, 2, 2, 9, 7, 1, 4};
     static const uint32_t stops[WORDS_2] = {1, 8, 2, 1, 0, 1, 7, 4, 5, 2, 5, 2, 5, 2,
                                             2, 9, 7, 1, 4, 0, 5, 2, 2, 9, 7, 1, 4};
-    static const uint32_t batch[] = {ADD(8, 1)};
-    static const uint32_t falls[] = {ADD(8, 1), ADD(7, 4)};
+    static const uint32_t batch[] = {ADDED(8, 1, 1)};
+    static const uint32_t falls[] = {ADDED(8, 1, 1), ADDED(7, 4, 2)};
     static const uint32_t unused[] = {UNUSED, UNUSED, UNUSED, UNUSED};
-    ask_over(start, WORDS_2, batch, 4, unused, stopped(2, 6, 1), group, "constants");
-    ask_over(stops, WORDS_2, batch, 4, unused, stopped(1, 3, 0), group, "constants, where it stopped");
+    ask_over(start, WORDS_2, batch, 5, unused, stopped(2, 6, 1), group, "constants");
+    ask_over(stops, WORDS_2, batch, 5, unused, stopped(1, 3, 0), group, "constants, where it stopped");
     ask_over(stops, WORDS_2, batch, 0, unused, through(0, 1), group, "constants, no records");
-    ask_over(stops, WORDS_2, falls, 8, unused, (struct forecast){7, 0, 0, 0, 0}, group, "constants, 7");
-    ask_over(stops, WORDS_2 - 1, falls, 8, unused, (struct forecast){1, 0, 0, 0, 0}, group, "constants, 1");
+    ask_over(stops, WORDS_2, falls, 10, unused, (struct forecast){7, 0, 0, 0, 0}, group, "constants, 7");
+    ask_over(stops, WORDS_2 - 1, falls, 10, unused, (struct forecast){1, 0, 0, 0, 0}, group, "constants, 1");
 
     forecast_on(start, WORDS_2, BATCH(ADD(8, 1)), stopped(2, 6, 1), group, "from the start");
     forecast_on(start, WORDS_2, BATCH(ADD(8, 1), ADD(9, 1), ADD(10, 1)), stopped(3, 9, 1), group, "three blocks");
@@ -169,9 +169,9 @@ static void fills(void) {
     uint32_t one[20 * GI_RECORD_WORDS];
     uint32_t many[8 * GI_RECORD_WORDS];
     for (uint32_t i = 0; i < 20; i++)
-        memcpy(one + i * GI_RECORD_WORDS, (const uint32_t[]){ADD(3, i + 1)}, GI_RECORD_WORDS * sizeof *one);
+        PUT(one, i, ADD(3, i + 1));
     for (uint32_t i = 0; i < 8; i++)
-        memcpy(many + i * GI_RECORD_WORDS, (const uint32_t[]){ADD(i + 1, 9)}, GI_RECORD_WORDS * sizeof *many);
+        PUT(many, i, ADD(i + 1, 9));
     /* six positions of a term to a block, and three places */
     for (uint32_t count = 1; count <= 18; count++)
         forecast(fresh, one, count * GI_RECORD_WORDS, through((count + 5) / 6, (count + 5) / 6 * 3), group, "one term");
@@ -334,6 +334,30 @@ static void open_passes(void) {
     forecast(card, BATCH(REMOVE(5, 1, 1)), through(0, 1), group, "nothing remains of it");
 }
 
+/* ---- arrival: a pair added and removed is there as the later of the two has it */
+
+static void arrivals(void) {
+    const char *group = "arrival";
+    struct card fresh = CARD(1, 8, 4, 0, 0, 0, 0, 0);
+    forecast(full(), ARRIVED(REMOVED(1, 60, 60, 1), ADDED(1, 60, 2)), through(3, 9), group, "removed, then added");
+    forecast(full(), ARRIVED(REMOVED(1, 60, 60, 2), ADDED(1, 60, 1)), stopped(3, 9, 0), group, "added, then removed");
+    forecast(full(), ARRIVED(ANNULLED(60, 60, 1), ADDED(1, 60, 9)), through(3, 9), group, "annulled, then added");
+    forecast(full(), ARRIVED(ANNULLED(60, 60, 9), ADDED(1, 60, 1)), stopped(3, 9, 0), group, "added, then annulled");
+    forecast(full(), ARRIVED(ANNULLED(1, 60, 1), ADDED(2, 6, 2)), through(1, 3), group, "all annulled, one added then");
+    forecast(full(), ARRIVED(ANNULLED(1, 60, 2), ADDED(2, 6, 1)), through(0, 1), group, "all annulled after that");
+    forecast(full(), ARRIVED(ADDED(1, 15, 2), REMOVED(1, 15, 15, 1)), stopped(4, 12, 0), group, "a new pair stays");
+    forecast(full(), ARRIVED(ADDED(1, 15, 1), REMOVED(1, 15, 15, 2)), through(3, 9), group, "a new pair goes again");
+    forecast(full(), ARRIVED(ADDED(1, 15, 1), REMOVED(1, 15, 10, 2)), stopped(4, 12, 0), group, "an empty range later");
+    forecast(fresh, ARRIVED(ADDED(5, 2, 1), REMOVED(5, 2, 9, 3), ADDED(5, 9, 2)), through(0, 1), group,
+             "all gone again");
+    forecast(fresh, ARRIVED(ADDED(5, 2, 3), REMOVED(5, 2, 9, 2), ADDED(5, 9, 1)), through(1, 3), group, "one of two");
+    forecast(case1(), ARRIVED(ADDED(8, 1, 2), REMOVED(8, 1, 1, 1)), through(2, 6), group, "case 3, removed before");
+    forecast(case1(), ARRIVED(ADDED(8, 1, 1), REMOVED(8, 1, 1, 2)), through(1, 3), group, "case 3, removed after");
+    forecast(case3_open(), ARRIVED(ADDED(8, 1, 2), REMOVED(8, 1, 1, 1)), through(1, 3), group, "mid-pass, stays");
+    forecast(case3_open(), ARRIVED(ADDED(8, 1, 1), REMOVED(8, 1, 1, 2)), through(0, 1), group, "mid-pass, goes");
+    forecast(wrapped(), ARRIVED(ANNULLED(5, 9, 3), ADDED(2, 5, 1), ADDED(4, 9, 4)), through(1, 3), group, "one of two");
+}
+
 /* ---- large cards */
 
 static void large_cards(void) {
@@ -342,9 +366,8 @@ static void large_cards(void) {
     static uint32_t odd[GI_BATCH_RECORDS_MAX * GI_RECORD_WORDS];
     const size_t most = sizeof terms / sizeof *terms;
     for (uint32_t i = 0; i < GI_BATCH_RECORDS_MAX; i++) {
-        memcpy(terms + i * GI_RECORD_WORDS, (const uint32_t[]){ADD(i + 2000, 9)}, GI_RECORD_WORDS * sizeof *terms);
-        memcpy(odd + i * GI_RECORD_WORDS, (const uint32_t[]){ANNUL(2 * i + 1, 2 * i + 1)},
-               GI_RECORD_WORDS * sizeof *odd);
+        PUT(terms, i, ADD(i + 2000, 9));
+        PUT(odd, i, ANNUL(2 * i + 1, 2 * i + 1));
     }
     uint32_t *card = calloc(GI_CARD_WORDS_MAX, sizeof *card);
     check(card != NULL, group, "memory for the card");
@@ -404,7 +427,7 @@ static void refused(struct card card, const uint32_t *batch, size_t batch_length
 
 static void wrong_batches(void) {
     const char *group = "number 6";
-    static const uint32_t good[] = {ADD(5, 3), ADD(6, 1), ADD(7, 1)};
+    static const uint32_t good[] = {ADDED(5, 3, 1), ADDED(6, 1, 2), ADDED(7, 1, 3)};
     for (size_t length = 1; length < sizeof good / sizeof *good; length++)
         if (length % GI_RECORD_WORDS != 0)
             refused(case1(), good, length, 6, group, "a length that is no records");
@@ -427,10 +450,10 @@ static void wrong_batches(void) {
     refused(full(), BATCH(ADD(1, 15), ADD(2, 0)), 6, group, "where the pass would stop");
     static uint32_t many[(GI_BATCH_RECORDS_MAX + 1) * GI_RECORD_WORDS];
     for (uint32_t i = 0; i <= GI_BATCH_RECORDS_MAX; i++)
-        memcpy(many + i * GI_RECORD_WORDS, (const uint32_t[]){ADD(7, 4)}, GI_RECORD_WORDS * sizeof *many);
+        PUT(many, i, ADD(7, 4));
     forecast(case1(), many, GI_BATCH_RECORDS_MAX * GI_RECORD_WORDS, through(1, 3), group, "but 4,096 repeats are none");
     refused(case1(), many, sizeof many / sizeof *many, 6, group, "4,097 records");
-    refused(case1(), many, sizeof many / sizeof *many - 3, 6, group, "4,096 records and a word");
+    refused(case1(), many, sizeof many / sizeof *many - (GI_RECORD_WORDS - 1), 6, group, "4,096 records and a word");
     many[1] = 8;
     refused(case1(), many, sizeof many / sizeof *many, 6, group, "4,097 records that fall");
     refused(case1(), many, sizeof many / sizeof *many - GI_RECORD_WORDS, 7, "number 7", "4,096 records that fall");
@@ -499,6 +522,7 @@ void test_forecast(void) {
     one_place_free();
     two_places_free();
     open_passes();
+    arrivals();
     large_cards();
     wrong_batches();
     wrong_cards();

@@ -96,7 +96,19 @@ check 'it names number 1' grep -q ': 1, ' out
 
 # ---- apply
 
-batch() { "$to_words" "${@:2}" >"$1"; } # FILE WORDS..: makes a batch file
+# numbers on standard input as the words of a file
+as_words() {
+    # shellcheck disable=SC2059
+    printf "$(awk '{ for (i = 1; i <= NF; i++) for (k = 0; k < 4; k++) { printf "\\x%02x", $i % 256; $i = int($i / 256) } }')"
+}
+arrived() { as_words <<<"${*:2}" >"$1"; } # FILE WORDS..: makes a batch file of records with their arrival numbers
+# records without them on standard input, one to a line: with arrival numbers, the additions after all removals, so that
+# they win
+numbered() {
+    awk '{ record[NR] = $0; adds[NR] = $1 == 1; removals += $1 != 1 }
+        END { for (i = 1; i <= NR; i++) print record[i], adds[i] ? removals + ++added : ++removed }'
+}
+batch() { printf '%s %s %s %s\n' "${@:2}" | numbered | as_words >"$1"; } # FILE WORDS..: makes a batch file of such records
 configuration() { words "$1" 0 | cut -d' ' -f2-9; }
 # the live pairs of a sound card, rising, 'term position' to a line
 pairs() {
@@ -151,13 +163,16 @@ refused() { # NUMBER WHAT CARD BATCH
     check "$2: it names number $1" grep -q "number $1:" out
     check "$2: the card stands" cmp -s "$3" before.card
 }
-batch part.batch 1 5 2
+arrived part.batch 1 5 2
 refused 6 'a batch of three words' case1.card part.batch
+arrived part.batch 1 5 2 2
+refused 6 'a batch of four words' case1.card part.batch
+arrived part.batch 1 5 2 2 1 1 5 9 9
+refused 6 'a batch of nine words' case1.card part.batch
 batch kind.batch 4 5 2 2
 refused 6 'a record of no kind' case1.card kind.batch
-cp more.batch most.batch # an addition again and again
-for _ in $(seq 12); do cat most.batch most.batch >twice.batch && mv twice.batch most.batch; done
-cat most.batch more.batch >many.batch
+seq 4096 | sed 's/^/1 8 1 1 /' | as_words >most.batch # an addition again and again
+seq 4097 | sed 's/^/1 8 1 1 /' | as_words >many.batch
 refused 6 'a batch of 4,097 records' case1.card many.batch
 run 0 'a batch of 4,096 records' apply case.card most.batch
 batch order.batch 1 7 4 4 1 5 2 2
@@ -265,7 +280,7 @@ check 'pages change nothing' cmp -s page.card before.card
 
 # many postings, in several blocks: more bytes than standard output keeps before it writes
 run 0 'format a card for a long page' format long.card 64 12
-seq 320 | awk '{ print 1, 5, $1 * $1, $1 * $1 }' | xargs "$to_words" >long.batch
+seq 320 | awk '{ print 1, 5, $1 * $1, $1 * $1, $1 }' | as_words >long.batch
 run 0 'add its postings' apply long.card long.batch
 run 0 'a long page' page long.card 5
 check 'it has 64 lines of 65 bytes' [ "$(grep -Ec '^.{65}$' out)" -eq 64 -a "$(stat -c %s out)" -eq 4224 ]
@@ -302,6 +317,8 @@ check 'the run that waited goes on' wait "$waiting"
 . "$here/host_annul.sh"
 # shellcheck source=tests/c/host_fits.sh
 . "$here/host_fits.sh"
+# shellcheck source=tests/c/host_arrival.sh
+. "$here/host_arrival.sh"
 
 # faults of files and of the command line go to stderr
 run 2 'judge a file that is not there' judge none.card
@@ -339,7 +356,7 @@ faulty_page 'a page of three bytes' odd.card 5
 run 2 'an unknown command' frobnicate new.card
 run 2 'no command'
 run 0 'help' help
-check 'eleven commands, in columns' [ "$(grep -Ec '^  [a-z ]{7} ([][A-Z ]{21}|--text [A-Z ]{14}|--resume [A-Z ]{12}) [a-z]' out)" -eq 11 ]
+check 'twelve commands, in columns' [ "$(grep -Ec '^  [a-z ]{7} ([][A-Z ]{21}|--text [A-Z ]{14}|--resume [A-Z ]{12}) [a-z]' out)" -eq 12 ]
 
 echo "$passed passed, $failed failed"
 [ "$failed" -eq 0 ]

@@ -89,7 +89,7 @@ done
 left "$(grep -v ' 7$' <<<"$every")" 'from is to' rounds.card 7 7
 none_removed '' 'from is to'
 
-# records of kind 3 beside others, in a batch: additions win, and what they remove adds up
+# records of kind 3 beside others, in a batch: additions that arrive later win, and what they remove adds up
 mixed() { # PAIRS WHAT WORDS..: what the batch leaves of the rounds
     cp rounds.card both.card
     batch mix.batch "${@:3}"
@@ -221,10 +221,7 @@ done
 
 # a card with one free place, where an old block whose last pair goes still holds its place
 run 0 'format a card of four places' format tight.card 8 4
-seq 6 | awk '{ print 1, 4, $1, $1 }' >tight.words
-seq 11 16 | awk '{ print 1, 5, $1, $1 }' >>tight.words
-echo '1 8 1 1' >>tight.words
-xargs "$to_words" <tight.words >tight.batch
+{ seq 6 | awk '{ print 1, 4, $1, $1 }' && seq 11 16 | awk '{ print 1, 5, $1, $1 }' && echo '1 8 1 1'; } | numbered | as_words >tight.batch
 run 0 'fill three of them' apply tight.card tight.batch
 annulled 1 'it is full' tight.card 16 16
 check 'it names number 8' grep -q '^both.card: refused, number 8:' out
@@ -283,8 +280,8 @@ check 'the bytes stand' [ "$(cat odd.card)" = abc ]
 
 check 'help on the command' grep -qx '  annul   CARD FROM TO          remove a range of running numbers under every term' usage
 check 'help on its other form' grep -qx '  annul   --resume CARD FROM TO go on with such an annulment that was cut short' usage
-check 'help on its records' grep -qx 'removes from from to to under every term; a removal with from above to removes nothing' <(grep -A 1 'kind 3, with term 0,$' usage)
-check 'help on its refusal' grep -q '^exit status: 0 done, 1 refused (the number is shown, or that a pass is open), 2 ' usage
+check 'help on its records' grep -qx 'term 0, removes from from to to under every term; a removal with from above to removes nothing' <(grep -A 1 'kind 3, with$' usage)
+check 'help on its refusal' grep -q '^exit status: 0 done, 1 refused (the number is shown, or the ground), 2 ' usage
 cp case1.card ./--resume # an option is no card, whatever files there are
 misused 'no card and no range' annul
 misused 'no range' annul case1.card
@@ -311,7 +308,7 @@ check 'its pairs' [ "$(pairs both.card)" = '5 2' ]
 
 rm words.log
 cp rounds.card log.card
-WRITE_LOG=words.log run_cut 0 'the writes of the batch' apply log.card <("$to_words" 3 0 5 8)
+WRITE_LOG=words.log run_cut 0 'the writes of the batch' apply log.card <("$to_words" 3 0 5 8 1)
 cp rounds.card log.card
 WRITE_LOG=annul.log run_cut 0 'the writes of the annulment' annul log.card 5 8
 check 'they are the same, and synced alike' cmp -s annul.log words.log

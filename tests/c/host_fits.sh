@@ -217,7 +217,7 @@ declined 4 'a card that is not sound' live.card one.batch
 declined 4 'a card that is not sound, and a batch that is wrong' live.card order.batch
 declined 6 'a batch of three words' ask.card part.batch
 declined 6 'a record of no kind' ask.card kind.batch
-cat many.batch <(tail -c 16 many.batch) >over.batch
+cat many.batch <(as_words <<<'1 64 64 64 4097') >over.batch
 declined 6 'a batch of 4,097 records' ask.card over.batch
 declined 7 'records that fall' ask.card order.batch
 declined 7 'records that fall, on a full card' duo.card order.batch

@@ -1,12 +1,10 @@
 # A part of host.sh: scorekeepers' files, applied with apply --text.
 
 # Makes NAME.text of the lines on standard input, which have blanks for tabs, and
-# NAME.batch, the words of the same records, sorted here.
+# NAME.batch, the words of the same records, each with its line's number, sorted here.
 both() { # NAME
     tr ' ' '\t' >"$1.text"
-    # shellcheck disable=SC2059
-    printf "$(awk '{ print $1 == "A" ? 1 : 2, $2, $3, $NF }' "$1.text" | sort -s -k 2,2n -k 3,3n | awk '
-        { for (i = 1; i <= NF; i++) for (k = 0; k < 4; k++) { printf "\\x%02x", $i % 256; $i = int($i / 256) } }')" >"$1.batch"
+    awk '{ print $1 == "A" ? 1 : 2, $2, $3, $NF, NR }' "$1.text" | sort -s -k 2,2n -k 3,3n | as_words >"$1.batch"
 }
 
 # Text and words leave the same card and show the same.
@@ -26,7 +24,8 @@ alike() { # STATUS WHAT CARD NAME: NAME.text and NAME.batch, each applied to the
 
 both three <<<$'A 7 4\nA 5 9\nA 5 2'
 alike 0 'lines that fall' new.card three
-check 'it is the batch in order' cmp -s three.batch one.batch
+arrived three.words 1 5 2 2 3 1 5 9 9 2 1 7 4 4 1
+check 'it is the batch in order' cmp -s three.batch three.words
 check 'the words of case 1' [ "$(words both.card 0)" = " 1 8 4 0 1 0 0 0 5 2 0 0 0 0 0 0 5 2 2 9 7 1 4 0 $(yes 0 | head -n 24 | tr '\n' ' ')" ]
 both more <<<'A 8 1'
 alike 0 'one line' case1.card more
@@ -185,7 +184,7 @@ check 'no card is made' [ ! -e none.card ]
 run 0 'help' help
 mv out usage
 check 'help on the command' grep -qx "  apply   --text CARD FILE      apply a scorekeepers' file, or - for standard input" usage
-check 'help on its file' grep -qx "a scorekeepers' file is lines, in any order: A<tab>term<tab>position adds, R<tab>term<tab>from<tab>to removes" usage
+check 'help on its file' grep -qx "a scorekeepers' file is lines, the latest last: A<tab>term<tab>position adds, R<tab>term<tab>from<tab>to removes" usage
 misused() { # WHAT WORDS..: a fault of the command line: the help on standard error alone
     run 2 "$1" "${@:2}"
     check "$1: the message" cmp -s err usage

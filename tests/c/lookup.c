@@ -194,13 +194,14 @@ static void boundaries(void) {
 /* What a pass shows while it goes on, from case 1 to case 3. */
 static void during_a_pass(void) {
     const char *group = "during a pass";
-    const uint32_t batch[] = {GI_RECORD_ADD, 8, 1, 1};
+    const uint32_t batch[] = {ADDED(8, 1, 1)};
     struct card card = case1();
     for (int step = 1; step <= 6; step++) {
         uint32_t write;
         uint32_t freed;
         uint32_t finished;
-        check_number(gi_step(card.words, WORDS, batch, 4, &write, &freed, &finished), GI_DONE, group, "the step");
+        check_number(gi_step(card.words, WORDS, batch, GI_RECORD_WORDS, &write, &freed, &finished), GI_DONE, group,
+                     "the step");
         found(card, 5, 1, 99, FOUND(2, 9), 1, group, "5");
         found(card, 7, 1, 99, FOUND(4), 1, group, "7");
         if (step < 6)

@@ -92,37 +92,43 @@ static void bad_line(const uint8_t *line, size_t length, const char *what) {
 
 static void records(void) {
     given(TEXT(""), NO_BATCH, "no bytes are no line");
-    given_both(TEXT("A\t5\t2\n"), BATCH(1, 5, 2, 2), "an addition");
-    given_both(TEXT("R\t5\t2\t9\n"), BATCH(2, 5, 2, 9), "a removal");
-    given_both(TEXT("A\t5\t2\nR\t7\t1\t4\n"), BATCH(1, 5, 2, 2, 2, 7, 1, 4), "two lines");
-    given_both(TEXT("A\t0\t0\n"), BATCH(1, 0, 0, 0), "0 alone is a figure");
-    given_both(TEXT("R\t0\t0\t0\n"), BATCH(2, 0, 0, 0), "0 alone in a removal");
-    given_both(TEXT("R\t5\t9\t2\n"), BATCH(2, 5, 9, 2), "from above to");
-    given_both(TEXT("R\t5\t4294967295\t1\n"), BATCH(2, 5, UINT32_MAX, 1), "from the highest to the lowest");
-    given_both(TEXT("R\t5\t9\t0\n"), BATCH(2, 5, 9, 0), "to 0");
-    given_both(TEXT("A\t10\t100\n"), BATCH(1, 10, 100, 100), "zeros that do not lead");
-    given_both(TEXT("A\t1234567890\t987654321\n"), BATCH(1, 1234567890, 987654321, 987654321), "every digit");
-    given_both(TEXT("A\t4294967295\t4294967294\n"), BATCH(1, UINT32_MAX, 4294967294, 4294967294), "highest addition");
-    given_both(TEXT("R\t4294967295\t4294967295\t4294967295\n"), BATCH(2, UINT32_MAX, UINT32_MAX, UINT32_MAX),
+    given_both(TEXT("A\t5\t2\n"), ARRIVED(ADDED(5, 2, 1)), "an addition");
+    given_both(TEXT("R\t5\t2\t9\n"), ARRIVED(REMOVED(5, 2, 9, 1)), "a removal");
+    given_both(TEXT("A\t5\t2\nR\t7\t1\t4\n"), ARRIVED(ADDED(5, 2, 1), REMOVED(7, 1, 4, 2)), "two lines");
+    given_both(TEXT("A\t0\t0\n"), ARRIVED(ADDED(0, 0, 1)), "0 alone is a figure");
+    given_both(TEXT("R\t0\t0\t0\n"), ARRIVED(REMOVED(0, 0, 0, 1)), "0 alone in a removal");
+    given_both(TEXT("R\t5\t9\t2\n"), ARRIVED(REMOVED(5, 9, 2, 1)), "from above to");
+    given_both(TEXT("R\t5\t4294967295\t1\n"), ARRIVED(REMOVED(5, UINT32_MAX, 1, 1)), "from the highest to the lowest");
+    given_both(TEXT("R\t5\t9\t0\n"), ARRIVED(REMOVED(5, 9, 0, 1)), "to 0");
+    given_both(TEXT("A\t10\t100\n"), ARRIVED(ADDED(10, 100, 1)), "zeros that do not lead");
+    given_both(TEXT("A\t1234567890\t987654321\n"), ARRIVED(ADDED(1234567890, 987654321, 1)), "every digit");
+    given_both(TEXT("A\t4294967295\t4294967294\n"), ARRIVED(ADDED(UINT32_MAX, 4294967294, 1)), "highest addition");
+    given_both(TEXT("R\t4294967295\t4294967295\t4294967295\n"), ARRIVED(REMOVED(UINT32_MAX, UINT32_MAX, UINT32_MAX, 1)),
                "the longest line");
 }
 
 static void order(void) {
-    given_both(TEXT("A\t6\t1\nA\t5\t9\n"), BATCH(1, 5, 9, 9, 1, 6, 1, 1), "by term");
-    given_both(TEXT("A\t5\t9\nA\t5\t2\n"), BATCH(1, 5, 2, 2, 1, 5, 9, 9), "then by from");
-    given_both(TEXT("A\t10\t1\nA\t9\t1\n"), BATCH(1, 9, 1, 1, 1, 10, 1, 1), "as numbers, not as text");
+    given_both(TEXT("A\t6\t1\nA\t5\t9\n"), ARRIVED(ADDED(5, 9, 2), ADDED(6, 1, 1)), "by term");
+    given_both(TEXT("A\t5\t9\nA\t5\t2\n"), ARRIVED(ADDED(5, 2, 2), ADDED(5, 9, 1)), "then by from");
+    given_both(TEXT("A\t10\t1\nA\t9\t1\n"), ARRIVED(ADDED(9, 1, 2), ADDED(10, 1, 1)), "as numbers, not as text");
     given_both(TEXT("A\t4294967295\t1\nA\t1\t4294967295\nA\t1\t1\n"),
-               BATCH(1, 1, 1, 1, 1, 1, UINT32_MAX, UINT32_MAX, 1, UINT32_MAX, 1, 1), "the highest last");
-    given_both(TEXT("A\t5\t2\nR\t5\t2\t9\n"), BATCH(1, 5, 2, 2, 2, 5, 2, 9), "equal in both, added first");
-    given_both(TEXT("R\t5\t2\t9\nA\t5\t2\n"), BATCH(2, 5, 2, 9, 1, 5, 2, 2), "equal in both, removed first");
-    given_both(TEXT("R\t5\t2\t9\nR\t5\t2\t4\nR\t5\t2\t6\n"), BATCH(2, 5, 2, 9, 2, 5, 2, 4, 2, 5, 2, 6),
-               "equal in both, whatever to is");
-    given_both(TEXT("R\t5\t9\t3\nA\t5\t4\n"), BATCH(1, 5, 4, 4, 2, 5, 9, 3), "by from, not by a lower to");
-    given_both(TEXT("R\t5\t9\t3\nR\t5\t8\t20\n"), BATCH(2, 5, 8, 20, 2, 5, 9, 3), "by from, not by a higher to");
-    given_both(TEXT("R\t5\t9\t3\nA\t5\t9\n"), BATCH(2, 5, 9, 3, 1, 5, 9, 9), "equal in both, from above to");
-    given_both(TEXT("A\t5\t2\nA\t5\t2\n"), BATCH(1, 5, 2, 2, 1, 5, 2, 2), "one line twice");
+               ARRIVED(ADDED(1, 1, 3), ADDED(1, UINT32_MAX, 2), ADDED(UINT32_MAX, 1, 1)), "the highest last");
+    given_both(TEXT("A\t5\t2\nR\t5\t2\t9\n"), ARRIVED(ADDED(5, 2, 1), REMOVED(5, 2, 9, 2)),
+               "equal in both, added first");
+    given_both(TEXT("R\t5\t2\t9\nA\t5\t2\n"), ARRIVED(REMOVED(5, 2, 9, 1), ADDED(5, 2, 2)),
+               "equal in both, removed first");
+    given_both(TEXT("R\t5\t2\t9\nR\t5\t2\t4\nR\t5\t2\t6\n"),
+               ARRIVED(REMOVED(5, 2, 9, 1), REMOVED(5, 2, 4, 2), REMOVED(5, 2, 6, 3)), "equal in both, whatever to is");
+    given_both(TEXT("R\t5\t9\t3\nA\t5\t4\n"), ARRIVED(ADDED(5, 4, 2), REMOVED(5, 9, 3, 1)),
+               "by from, not by a lower to");
+    given_both(TEXT("R\t5\t9\t3\nR\t5\t8\t20\n"), ARRIVED(REMOVED(5, 8, 20, 2), REMOVED(5, 9, 3, 1)),
+               "by from, not by a higher to");
+    given_both(TEXT("R\t5\t9\t3\nA\t5\t9\n"), ARRIVED(REMOVED(5, 9, 3, 1), ADDED(5, 9, 2)),
+               "equal in both, from above to");
+    given_both(TEXT("A\t5\t2\nA\t5\t2\n"), ARRIVED(ADDED(5, 2, 1), ADDED(5, 2, 2)), "one line twice");
     given_both(TEXT("R\t7\t4\t9\nA\t5\t9\nA\t7\t4\nR\t5\t2\t3\nA\t7\t4\nR\t7\t4\t5\nA\t5\t2\n"),
-               BATCH(2, 5, 2, 3, 1, 5, 2, 2, 1, 5, 9, 9, 2, 7, 4, 9, 1, 7, 4, 4, 1, 7, 4, 4, 2, 7, 4, 5),
+               ARRIVED(REMOVED(5, 2, 3, 4), ADDED(5, 2, 7), ADDED(5, 9, 2), REMOVED(7, 4, 9, 1), ADDED(7, 4, 3),
+                       ADDED(7, 4, 5), REMOVED(7, 4, 5, 6)),
                "seven lines, of which some are equal in both");
 }
 
@@ -280,6 +286,7 @@ static void many_lines(void) {
             record[1] = 5;
             record[2] = 2000 - i / 4;
             record[3] = i;
+            record[4] = i + 1;
         }
         given_both((const uint8_t *)text, (size_t)(end - text), batch, MOST_WORDS, "4,096 lines");
         strcpy(end, "A\t5\t2\n");
@@ -316,8 +323,8 @@ static void settling_bytes(void) {
     uint32_t *batch = malloc(MOST_WORDS * sizeof *batch);
     check(bytes != NULL && batch != NULL, "the longest line", "memory for 4,096 of them");
     if (bytes != NULL && batch != NULL) {
-        for (size_t i = 0; i < MOST_WORDS; i++)
-            batch[i] = i % GI_RECORD_WORDS == 0 ? GI_RECORD_REMOVE : UINT32_MAX;
+        for (uint32_t i = 0; i < GI_BATCH_RECORDS_MAX; i++)
+            PUT(batch, i, REMOVE(UINT32_MAX, UINT32_MAX, UINT32_MAX));
         given_both(bytes, length, batch, MOST_WORDS, "4,096 of the longest lines");
     }
     free(batch);

@@ -20,6 +20,8 @@ void test_forecast(void);
 void test_lookup(void);
 void test_page(void);
 void test_scores(void);
+void test_cases(void);
+void test_arrival(void);
 
 static inline void check(bool holds, const char *group, const char *what) {
     if (holds) {
@@ -143,11 +145,51 @@ static inline void judged(struct card card, uint32_t expected, const char *group
 /* ---- batches */
 
 /* A batch as two arguments: its words and their number. */
-#define BATCH(...) (const uint32_t[]){__VA_ARGS__}, sizeof((uint32_t[]){__VA_ARGS__}) / sizeof(uint32_t)
+#define ARRIVED(...) (const uint32_t[]){__VA_ARGS__}, COUNT(__VA_ARGS__)
 #define NO_RECORDS (const uint32_t[]){UNUSED}, 0
+#define COUNT(...) (sizeof((uint32_t[]){__VA_ARGS__}) / sizeof(uint32_t))
+
+/* Records with their arrival numbers. */
+#define ADDED(term, position, arrival) GI_RECORD_ADD, term, position, position, arrival
+#define REMOVED(term, from, to, arrival) GI_RECORD_REMOVE, term, from, to, arrival
+#define ANNULLED(from, to, arrival) GI_RECORD_ANNUL, 0, from, to, arrival
+
+/* Records without them, for tests whose point is another: in a BATCH of these the
+ * removals arrive first, in their order, and then the additions, so that additions
+ * win. Words that are left over stand at its end as they are. */
+#define BATCH(...)                                                                                                     \
+    numbered((uint32_t[NUMBERED_WORDS(COUNT(__VA_ARGS__)) + 1]){0}, (const uint32_t[]){__VA_ARGS__},                   \
+             COUNT(__VA_ARGS__)),                                                                                      \
+        NUMBERED_WORDS(COUNT(__VA_ARGS__))
+#define NUMBERED_WORDS(count) ((count) / BARE_WORDS * GI_RECORD_WORDS + (count) % BARE_WORDS)
 #define ADD(term, position) GI_RECORD_ADD, term, position, position
 #define REMOVE(term, from, to) GI_RECORD_REMOVE, term, from, to
 #define ANNUL(from, to) GI_RECORD_ANNUL, 0, from, to
+
+enum { BARE_WORDS = 4 }; /* of a record without its arrival number */
+
+static inline const uint32_t *numbered(uint32_t *batch, const uint32_t *words, size_t count) {
+    uint32_t removal = 1;
+    uint32_t addition = 1;
+    for (size_t i = 0; i + BARE_WORDS <= count; i += BARE_WORDS)
+        addition += words[i] != GI_RECORD_ADD;
+    uint32_t *record = batch;
+    for (; count >= BARE_WORDS; count -= BARE_WORDS, words += BARE_WORDS, record += GI_RECORD_WORDS) {
+        memcpy(record, words, BARE_WORDS * sizeof *words);
+        record[BARE_WORDS] = words[0] == GI_RECORD_ADD ? addition++ : removal++;
+    }
+    memcpy(record, words, count * sizeof *words);
+    return batch;
+}
+
+/* Puts a record without its arrival number at place i, from 0, of a batch; it arrives
+ * as the one there. */
+static inline void put_record(uint32_t *batch, uint32_t i, const uint32_t words[BARE_WORDS]) {
+    memcpy(batch + (size_t)i * GI_RECORD_WORDS, words, BARE_WORDS * sizeof *words);
+    batch[(size_t)i * GI_RECORD_WORDS + BARE_WORDS] = i + 1;
+}
+
+#define PUT(batch, i, ...) put_record(batch, i, (const uint32_t[BARE_WORDS]){__VA_ARGS__})
 
 /* ---- the largest card */
 

@@ -220,8 +220,8 @@ static void batches(void) {
             configured(case3_open(), next), group, "records up to the boundary do nothing");
 
     uint32_t repeats[GI_BATCH_RECORDS_MAX * GI_RECORD_WORDS];
-    for (size_t i = 0; i < GI_BATCH_RECORDS_MAX; i++)
-        memcpy(repeats + i * GI_RECORD_WORDS, (const uint32_t[]){ADD(7, 4)}, GI_RECORD_WORDS * sizeof(uint32_t));
+    for (uint32_t i = 0; i < GI_BATCH_RECORDS_MAX; i++)
+        PUT(repeats, i, ADD(7, 4));
     lands(fresh, repeats, sizeof repeats / sizeof *repeats, 0, WORDS_8(7, 1, 4, 0, 0, 0, 0, 0), one, 0, 1,
           "4,096 repeats");
 }
@@ -298,13 +298,13 @@ static void annulled(void) {
           "annulled: the next term begins in a gap");
 
     uint32_t many[GI_BATCH_RECORDS_MAX * GI_RECORD_WORDS];
-    for (size_t i = 0; i < GI_BATCH_RECORDS_MAX; i++)
-        memcpy(many + i * GI_RECORD_WORDS, (const uint32_t[]){ANNUL(3, 3)}, GI_RECORD_WORDS * sizeof(uint32_t));
+    for (uint32_t i = 0; i < GI_BATCH_RECORDS_MAX; i++)
+        PUT(many, i, ANNUL(3, 3));
     lands(case1(), many, sizeof many / sizeof *many, 1, BLOCK_1, next, 1, 1, "annulled: 4,096 repeats");
     many[3] = 8;
     lands(case1(), many, sizeof many / sizeof *many, 1, both, next, 1, 1, "annulled: the first of 4,096");
     many[3] = 3;
-    memcpy(many + sizeof many / sizeof *many - 2, (const uint32_t[]){9, 9}, 2 * sizeof(uint32_t));
+    PUT(many, GI_BATCH_RECORDS_MAX - 1, ANNUL(9, 9));
     lands(case1(), many, sizeof many / sizeof *many, 1, WORDS_8(5, 1, 2, 7, 1, 4, 0, 0), next, 1, 1,
           "annulled: the last of 4,096");
 }
@@ -315,8 +315,7 @@ static void annulled_largest(void) {
     enum { LEFT = 511 };
     static uint32_t batch[GI_BATCH_RECORDS_MAX * GI_RECORD_WORDS];
     for (uint32_t i = 0; i < GI_BATCH_RECORDS_MAX; i++)
-        memcpy(batch + i * GI_RECORD_WORDS, (const uint32_t[]){ANNUL(2 * i + 1, 2 * i + 1)},
-               GI_RECORD_WORDS * sizeof(uint32_t));
+        PUT(batch, i, ANNUL(2 * i + 1, 2 * i + 1));
     uint32_t *card = largest_card(LARGEST_LIVE);
     check(card != NULL, group, "memory for the card");
     if (card == NULL)
@@ -391,14 +390,14 @@ static void empty_ranges(void) {
     static uint32_t many[(GI_BATCH_RECORDS_MAX + 1) * GI_RECORD_WORDS];
     size_t most = GI_BATCH_RECORDS_MAX * GI_RECORD_WORDS;
     for (uint32_t i = 0; i <= GI_BATCH_RECORDS_MAX; i++)
-        memcpy(many + i * GI_RECORD_WORDS, (const uint32_t[]){REMOVE(5, i + 2, 1)}, GI_RECORD_WORDS * sizeof(uint32_t));
+        PUT(many, i, REMOVE(5, i + 2, 1));
     lands(case1(), many, most, 1, BLOCK_1, next, 1, 1, "empty range: 4,096 of them");
     step_refused(case1(), many, most + GI_RECORD_WORDS, 6, group, "4,097 of them");
     for (uint32_t i = 0; i <= GI_BATCH_RECORDS_MAX; i++)
-        memcpy(many + i * GI_RECORD_WORDS, (const uint32_t[]){ANNUL(i + 2, i + 1)}, GI_RECORD_WORDS * sizeof(uint32_t));
+        PUT(many, i, ANNUL(i + 2, i + 1));
     lands(case1(), many, most, 1, BLOCK_1, next, 1, 1, "empty range: 4,096 of them under every term");
     step_refused(case1(), many, most + GI_RECORD_WORDS, 6, group, "4,097 of them under every term");
-    memcpy(many + most - GI_RECORD_WORDS, (const uint32_t[]){REMOVE(5, 9, 9)}, GI_RECORD_WORDS * sizeof(uint32_t));
+    PUT(many, GI_BATCH_RECORDS_MAX - 1, REMOVE(5, 9, 9));
     lands(case1(), many, most, 1, WORDS_8(5, 1, 2, 7, 1, 4, 0, 0), next, 1, 1, "empty range: 4,095 before a removal");
 }
 
@@ -422,7 +421,7 @@ static void largest(void) {
     enum { TERMS = 341, BLOCKS = 13, BLOCKS_AT = GI_CONFIG_WORDS + 2 * 1024 };
     static uint32_t batch[GI_BATCH_RECORDS_MAX * GI_RECORD_WORDS];
     for (uint32_t i = 0; i < GI_BATCH_RECORDS_MAX; i++)
-        memcpy(batch + i * GI_RECORD_WORDS, (const uint32_t[]){ADD(i + 1, 9)}, GI_RECORD_WORDS * sizeof(uint32_t));
+        PUT(batch, i, ADD(i + 1, 9));
     uint32_t *card = calloc(GI_CARD_WORDS_MAX, sizeof *card);
     check(card != NULL, group, "memory for the card");
     if (card == NULL)
@@ -453,7 +452,7 @@ static void largest(void) {
 
 static void wrong_records(void) {
     const char *group = "number 6";
-    static const uint32_t good[] = {ADD(5, 3), ADD(6, 1), ADD(7, 1)};
+    static const uint32_t good[] = {ADDED(5, 3, 1), ADDED(6, 1, 2), ADDED(7, 1, 3)};
     for (size_t length = 1; length < sizeof good / sizeof *good; length++)
         if (length % GI_RECORD_WORDS != 0)
             step_refused(case1(), good, length, 6, group, "a length that is no records");
@@ -475,13 +474,14 @@ static void wrong_records(void) {
 
     static uint32_t many[(GI_BATCH_RECORDS_MAX + 1) * GI_RECORD_WORDS];
     for (uint32_t i = 0; i <= GI_BATCH_RECORDS_MAX; i++)
-        memcpy(many + i * GI_RECORD_WORDS, (const uint32_t[]){ADD(8, i + 1)}, GI_RECORD_WORDS * sizeof(uint32_t));
+        PUT(many, i, ADD(8, i + 1));
     step_refused(case1(), many, sizeof many / sizeof *many, 6, group, "4,097 records");
-    step_refused(case1(), many, sizeof many / sizeof *many - 3, 6, group, "4,096 records and a word");
-    memcpy(many, (const uint32_t[]){ANNUL(1, 9)}, GI_RECORD_WORDS * sizeof(uint32_t));
+    step_refused(case1(), many, sizeof many / sizeof *many - (GI_RECORD_WORDS - 1), 6, group,
+                 "4,096 records and a word");
+    PUT(many, 0, ANNUL(1, 9));
     step_refused(case1(), many, sizeof many / sizeof *many, 6, group, "4,097 records, one of them annuls");
     for (uint32_t i = 0; i <= GI_BATCH_RECORDS_MAX; i++)
-        memcpy(many + i * GI_RECORD_WORDS, (const uint32_t[]){ANNUL(i + 1, i + 1)}, GI_RECORD_WORDS * sizeof(uint32_t));
+        PUT(many, i, ANNUL(i + 1, i + 1));
     step_refused(case1(), many, sizeof many / sizeof *many, 6, group, "4,097 records that annul");
 }
 

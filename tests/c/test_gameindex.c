@@ -13,6 +13,8 @@ int main(void) {
     test_lookup();
     test_page();
     test_scores();
+    test_cases();
+    test_arrival();
     printf("%d passed, %d failed\n", passed, failed);
     return failed == 0 ? 0 : 1;
 }

@@ -1,8 +1,10 @@
 // Makers of batches: good ones over a small universe of terms and positions, and bad ones.
 
+use std::collections::BTreeSet;
+
 use crate::cards;
 use crate::random::Random;
-use crate::second::batch::{self, Record, ADD, ANNUL, MOST_RECORDS, REMOVE};
+use crate::second::batch::{self, Record, ADD, ANNUL, MOST_RECORDS, RECORD_WORDS, REMOVE};
 use crate::second::{judge_batch, Configuration, Pair, HIGHEST, LOWEST};
 
 const TOP: u32 = u32::MAX;
@@ -64,14 +66,31 @@ impl Universe {
         or_empty(random, range)
     }
 
+    /// Terms and positions at 4,294,967,295 and next to it.
+    pub fn at_the_top() -> [Universe; 4] {
+        [
+            Universe {
+                terms: vec![TOP],
+                positions: (TOP - 20..=TOP).collect(),
+            },
+            Universe {
+                terms: (TOP - 5..=TOP).collect(),
+                positions: vec![TOP - 1, TOP],
+            },
+            Universe {
+                terms: (TOP - 9..=TOP).collect(),
+                positions: vec![TOP],
+            },
+            Universe {
+                terms: vec![1, 2, TOP - 1, TOP],
+                positions: vec![1, 2, 1 << 31, TOP - 2, TOP - 1, TOP],
+            },
+        ]
+    }
+
     /// The batch that removes every pair of the universe.
     pub fn remove_all(&self) -> Vec<u32> {
-        let record = |&term: &u32| Record {
-            kind: REMOVE,
-            term,
-            from: 1,
-            to: u32::MAX,
-        };
+        let record = |&term: &u32| removal(term, 1, u32::MAX);
         words(self.terms.iter().map(record).collect())
     }
 }
@@ -119,12 +138,14 @@ impl Mixture {
     }
 }
 
+/// A record that arrives first, so that alone it is a batch.
 pub fn addition(term: u32, position: u32) -> Record {
     Record {
         kind: ADD,
         term,
         from: position,
         to: position,
+        arrival: 1,
     }
 }
 
@@ -134,6 +155,7 @@ pub fn removal(term: u32, from: u32, to: u32) -> Record {
         term,
         from,
         to,
+        arrival: 1,
     }
 }
 
@@ -143,6 +165,7 @@ pub fn annulment(from: u32, to: u32) -> Record {
         term: 0,
         from,
         to,
+        arrival: 1,
     }
 }
 
@@ -156,17 +179,127 @@ pub fn has_empty_range(batch: &[u32]) -> bool {
     batch::records(batch).iter().any(Record::is_empty_range)
 }
 
-/// The batch with every range that has no position in it taken out.
+/// The batch with every range that has no position in it taken out; the others arrive as they did.
 pub fn without_empty_ranges(batch: &[u32]) -> Vec<u32> {
     let mut records = batch::records(batch);
     records.retain(|record| !record.is_empty_range());
-    words(records)
+    records.iter().flat_map(Record::words).collect()
 }
 
-/// The records as words, put in order; of equal ones the earlier stays first.
-pub fn words(mut records: Vec<Record>) -> Vec<u32> {
+/// The records as words, put in order; of equal ones the earlier stays first. The additions arrive
+/// after all removals, so that they win.
+pub fn words(records: Vec<Record>) -> Vec<u32> {
+    numbered(&in_order(records))
+}
+
+/// The same with arrival numbers drawn.
+pub fn drawn_words(random: &mut Random, records: Vec<Record>) -> Vec<u32> {
+    arriving(random, &in_order(records))
+}
+
+/// The records put in order, as words without arrival numbers.
+fn in_order(mut records: Vec<Record>) -> Vec<u32> {
+    records.sort_by_key(|record| (record.term, record.from));
+    records.iter().flat_map(without_arrival).collect()
+}
+
+/// The words of records without arrival numbers, four each.
+pub const PLAIN_WORDS: usize = RECORD_WORDS - 1;
+
+/// A record without its arrival number.
+pub fn without_arrival(record: &Record) -> [u32; PLAIN_WORDS] {
+    [record.kind, record.term, record.from, record.to]
+}
+
+/// The batch of records without arrival numbers, with the numbers 1, 2, 3 and so on: whatever removes
+/// arrives first, by place, then whatever adds. So every addition wins. Words behind the last whole
+/// record stay behind.
+pub fn numbered(plain: &[u32]) -> Vec<u32> {
+    let kinds = || plain.chunks_exact(PLAIN_WORDS).map(|record| record[0]);
+    let mut removal = 0;
+    let mut addition = kinds().filter(|&kind| kind != ADD).count() as u32;
+    let arrivals: Vec<u32> = kinds()
+        .map(|kind| {
+            let next = if kind == ADD {
+                &mut addition
+            } else {
+                &mut removal
+            };
+            *next += 1;
+            *next
+        })
+        .collect();
+    with_arrivals(plain, &arrivals)
+}
+
+/// The records as words, put in order, with rising numbers drawn that keep the order of their arrival
+/// numbers; where two are equal, the first arrives first.
+pub fn by_arrival(random: &mut Random, mut records: Vec<Record>) -> Vec<u32> {
+    let mut arrivals = arrivals(random, records.len());
+    arrivals.sort_unstable();
+    records.sort_by_key(|record| record.arrival);
+    for (record, arrival) in records.iter_mut().zip(arrivals) {
+        record.arrival = arrival;
+    }
     records.sort_by_key(|record| (record.term, record.from));
     records.iter().flat_map(Record::words).collect()
+}
+
+/// The batch of records without arrival numbers, with numbers drawn.
+pub fn arriving(random: &mut Random, plain: &[u32]) -> Vec<u32> {
+    let arrivals = arrivals(random, plain.len() / PLAIN_WORDS);
+    with_arrivals(plain, &arrivals)
+}
+
+/// The batch of records without arrival numbers, with these numbers by place.
+pub fn with_arrivals(plain: &[u32], arrivals: &[u32]) -> Vec<u32> {
+    let whole = plain.chunks_exact(PLAIN_WORDS);
+    assert_eq!(whole.len(), arrivals.len());
+    let behind = whole.remainder();
+    let mut batch = Vec::with_capacity(plain.len() + arrivals.len());
+    for (record, &arrival) in whole.zip(arrivals) {
+        batch.extend_from_slice(record);
+        batch.push(arrival);
+    }
+    batch.extend_from_slice(behind);
+    batch
+}
+
+/// A batch's whole records without their arrival numbers.
+pub fn plain(batch: &[u32]) -> Vec<u32> {
+    batch::records(batch)
+        .iter()
+        .flat_map(without_arrival)
+        .collect()
+}
+
+/// So many different arrival numbers: those of the places as they are, back to front or mixed, words
+/// up to the highest, any words, or small and great ones together.
+pub fn arrivals(random: &mut Random, count: usize) -> Vec<u32> {
+    let most = count as u32;
+    let mut arrivals: Vec<u32> = match random.below(8) {
+        0 => return (1..=most).collect(),
+        1 => return (1..=most).rev().collect(),
+        2..=4 => (1..=most).collect(),
+        5 => (0..most).map(|i| TOP - i).collect(),
+        which => {
+            let mut different = BTreeSet::new();
+            while different.len() < count {
+                different.insert(match which {
+                    6 => random.within(1, TOP),
+                    _ => match random.below(4) {
+                        0 => TOP - random.below(2 * count) as u32,
+                        1 => (1 << 31) + random.below(2 * count) as u32,
+                        2 => random.within(1, TOP),
+                        _ => random.within(1, 2 * most),
+                    },
+                });
+            }
+            different.into_iter().collect()
+        }
+    };
+    random.shuffle(&mut arrivals);
+    arrivals
 }
 
 /// A batch that is judged 0.
@@ -199,7 +332,7 @@ pub fn good(random: &mut Random, universe: &Universe, mixture: Mixture, most: us
             records.push(removal(term, from, to));
         }
     }
-    let batch = words(records);
+    let batch = drawn_words(random, records);
     assert_eq!(judge_batch(&batch), 0);
     batch
 }
@@ -240,9 +373,153 @@ pub fn near(random: &mut Random, card: &[u32], mixture: Mixture, most: usize) ->
             records.push(removal(term, removed_from, removed_to));
         }
     }
-    let batch = words(records);
+    let batch = drawn_words(random, records);
     assert_eq!(judge_batch(&batch), 0);
     batch
+}
+
+/// A batch that is judged 0, over a universe or at the card's own pairs.
+pub fn any(random: &mut Random, card: &[u32], universe: &Universe, most: usize) -> Vec<u32> {
+    let mixture = Mixture::random(random);
+    if random.chance(1, 2) {
+        near(random, card, mixture, most)
+    } else {
+        good(random, universe, mixture, most)
+    }
+}
+
+/// A batch of exactly `count` records that is judged 0, with a few positions removed under every
+/// term.
+pub fn exactly(random: &mut Random, universe: &Universe, count: usize) -> Vec<u32> {
+    let annulments = random.below(2) * (count / 3).min(3);
+    let mut records = Vec::new();
+    for at in 0..count {
+        if at < annulments {
+            let position = universe.position(random);
+            let (from, to) = or_empty(random, (position, position));
+            records.push(annulment(from, to));
+            continue;
+        }
+        let term = universe.term(random);
+        if random.chance(2, 3) {
+            records.push(addition(term, universe.position(random)));
+        } else {
+            let (from, to) = universe.removed_range(random);
+            records.push(removal(term, from, to));
+        }
+    }
+    let batch = drawn_words(random, records);
+    assert_eq!(judge_batch(&batch), 0);
+    batch
+}
+
+/// Batches of 4,096 records, one of them of 4,095: any, one addition or one removal again and again,
+/// rising positions, rising terms, and stretches under every term.
+pub fn longest(random: &mut Random) -> [Vec<u32>; 6] {
+    let universe = Universe::wide(4000);
+    let step = TOP / 4096;
+    [
+        exactly(random, &universe, 4096),
+        drawn_words(random, vec![addition(7, 7); 4096]),
+        drawn_words(random, vec![removal(7, 7, TOP); 4095]),
+        drawn_words(random, (1..=4096).map(|i| addition(5, i * 9)).collect()),
+        drawn_words(random, (1..=4096).map(|i| addition(i * 9, 5)).collect()),
+        drawn_words(
+            random,
+            (0..4096)
+                .map(|i| annulment(i * step + 1, i * step + 9))
+                .collect(),
+        ),
+    ]
+}
+
+/// Changes of one word of such a batch's first or last record, by field and value.
+pub const LONGEST_FAULTS: [(usize, u32); 6] = [(3, 0), (2, 0), (0, 3), (0, 0), (1, TOP), (4, 0)];
+
+/// The batch with one record more at its end, which is in order there; its arrival number is the
+/// least that is free.
+pub fn with_a_last_record(batch: &[u32]) -> Vec<u32> {
+    let used: BTreeSet<u32> = batch::records(batch).iter().map(|r| r.arrival).collect();
+    let arrival = (1..).find(|number| !used.contains(number)).expect("a word");
+    let last = Record {
+        arrival,
+        ..addition(TOP, TOP)
+    };
+    [batch, &last.words()].concat()
+}
+
+/// What a record can be over small alphabets, without its arrival number.
+pub fn every_small_record() -> Vec<[u32; PLAIN_WORDS]> {
+    let mut records = Vec::new();
+    for kind in [0, 1, 2, 3, 4, TOP] {
+        for term in [0, 1, 2, TOP] {
+            for from in [0, 1, 2, TOP] {
+                for to in [0, 1, 2, TOP] {
+                    records.push([kind, term, from, to]);
+                }
+            }
+        }
+    }
+    records
+}
+
+/// Those of them that are judged 0 as a batch of one record.
+pub fn every_good_small_record() -> Vec<[u32; PLAIN_WORDS]> {
+    let mut records = every_small_record();
+    records.retain(|record| judge_batch(&numbered(record)) == 0);
+    records
+}
+
+/// Every batch of one record over the pairs of the small indexes.
+pub fn every_record_of_a_small_index() -> Vec<[u32; RECORD_WORDS]> {
+    let numbers = [1, 2, TOP];
+    let mut records = Vec::new();
+    for term in numbers {
+        for from in numbers {
+            records.push(addition(term, from).words());
+            records.extend(numbers.map(|to| removal(term, from, to).words()));
+        }
+    }
+    for from in numbers {
+        records.extend(numbers.map(|to| annulment(from, to).words()));
+    }
+    records
+}
+
+/// Changes of one word of a record of a batch, by field and value, that may be faults.
+pub fn faults(random: &mut Random, batch: &[u32], at: usize) -> Vec<(usize, u32)> {
+    let record = &batch[RECORD_WORDS * at..RECORD_WORDS * (at + 1)];
+    let (from, to, arrival) = (record[2], record[3], record[4]);
+    let other = RECORD_WORDS * random.below(batch.len() / RECORD_WORDS) + 4;
+    let mut faults: Vec<(usize, u32)> = vec![
+        (0, 0),
+        (0, 1),
+        (0, 2),
+        (0, 3),
+        (0, 4),
+        (0, 1 << 16 | 1),
+        (0, 1 << 16 | 3),
+        (0, TOP),
+        (1, 0),
+        (1, 5),
+        (2, 0),
+        (3, 0),
+        (2, to.wrapping_add(1)),
+        (3, from.wrapping_sub(1)),
+        (2, TOP),
+        (3, 1),
+        (1, 1),
+        (1, TOP),
+        (2, 1),
+        (3, TOP),
+        // Arrival numbers: 0, another record's, and ones next to this.
+        (4, 0),
+        (4, batch[other]),
+        (4, arrival.wrapping_add(1)),
+        (4, arrival.wrapping_sub(1)),
+    ];
+    faults.push((random.below(RECORD_WORDS), random.word()));
+    faults
 }
 
 fn beside(random: &mut Random, word: u32) -> u32 {
@@ -414,7 +691,7 @@ pub const EMPTY_RANGES: [(u32, u32); 9] = [
 ];
 
 /// Batches in order with such ranges, where the order by to, or by the lesser of from and to, would
-/// fall in many.
+/// fall in many; without arrival numbers, as the tables below.
 pub const EMPTY_RANGES_IN_ORDER: [&[u32]; 24] = [
     &[2, 5, 2, 1],
     &[2, 5, 9, 3],
@@ -548,12 +825,12 @@ pub const WRONG_ANNULMENTS: [(&[u32], u32); 33] = [
 ];
 
 /// A wrong batch alone, and between records that can stand before any other and behind any other;
-/// where `longest` says so, also first and last in batches as long as can be.
+/// where `longest` says so, also first and last in batches as long as can be. The wrong batch has no
+/// arrival numbers; it gets them with the others, drawn.
 pub fn around(random: &mut Random, wrong: &[u32], longest: bool) -> Vec<Vec<u32>> {
-    let front = annulment(1, random.pick(&[1, 2, 9, TOP])).words();
-    let behind = random
-        .pick(&[addition(TOP, TOP), removal(TOP, TOP, 1)])
-        .words();
+    let front = without_arrival(&annulment(1, random.pick(&[1, 2, 9, TOP])));
+    let behind = random.pick(&[addition(TOP, TOP), removal(TOP, TOP, 1)]);
+    let behind = without_arrival(&behind);
     let between = [
         &front.repeat(1 + random.below(4)),
         wrong,
@@ -561,30 +838,31 @@ pub fn around(random: &mut Random, wrong: &[u32], longest: bool) -> Vec<Vec<u32>
     ];
     let mut batches = vec![wrong.to_vec(), between.concat()];
     if longest {
-        let room = MOST_RECORDS - wrong.len() / 4;
+        let room = MOST_RECORDS - wrong.len() / PLAIN_WORDS;
         batches.push([&front.repeat(room), wrong].concat());
         batches.push([wrong, &behind.repeat(room)].concat());
     }
-    batches
+    let arriving = |batch: &Vec<u32>| arriving(random, batch);
+    batches.iter().map(arriving).collect()
 }
 
-/// A batch that is judged 6 or 7.
+/// A batch that is judged 6, 7 or 14.
 pub fn bad(random: &mut Random, universe: &Universe) -> Vec<u32> {
     loop {
-        let mut batch = good(random, universe, Mixture::Both, 8);
+        let mut batch = plain(&good(random, universe, Mixture::Both, 8));
         if batch.is_empty() {
             continue;
         }
-        let record = 4 * random.below(batch.len() / 4);
-        match random.below(13) {
+        let record = PLAIN_WORDS * random.below(batch.len() / PLAIN_WORDS);
+        match random.below(15) {
             0 => batch.truncate(batch.len() - 1 - random.below(3)),
             1 => batch[record] = random.pick(&[0, 3, 4, u32::MAX]),
             2 => batch[record + 1 + random.below(3)] = 0,
             3 => batch[record + 2] = batch[record + 2].wrapping_add(1),
             4 => batch[record + 3] = batch[record + 3].wrapping_sub(1),
-            5 => batch.rotate_left(4),
+            5 => batch.rotate_left(PLAIN_WORDS),
             6 => {
-                let whole = batch[record..record + 4].to_vec();
+                let whole = batch[record..record + PLAIN_WORDS].to_vec();
                 batch = whole.repeat(MOST_RECORDS + 1);
             }
             7 => {
@@ -605,21 +883,38 @@ pub fn bad(random: &mut Random, universe: &Universe) -> Vec<u32> {
             9 => {
                 // A stretch that cannot be, in front.
                 let (from, to) = random.pick(&[(0, 9), (9, 0), (0, 0), (TOP, 0), (0, TOP)]);
-                batch.splice(0..0, annulment(from, to).words());
+                batch.splice(0..0, without_arrival(&annulment(from, to)));
             }
             10 => {
                 // A removal under every term behind others.
                 let (from, to) = universe.removed_range(random);
-                batch.splice(record + 4..record + 4, annulment(from, to).words());
+                let behind = record + PLAIN_WORDS;
+                batch.splice(behind..behind, without_arrival(&annulment(from, to)));
             }
             11 => {
                 let (wrong, _) = random.pick(&WRONG_ANNULMENTS);
                 batch.splice(record..record, wrong.iter().copied());
             }
-            _ => {
+            12 => {
                 let (wrong, _) = random.pick(&WRONG_EMPTY_RANGES);
                 batch.splice(record..record, wrong.iter().copied());
             }
+            // Only its arrival numbers may be wrong.
+            _ => {}
+        }
+        let mut batch = arriving(random, &batch);
+        let count = batch.len() / RECORD_WORDS;
+        let arrival = |at: usize| at * RECORD_WORDS + RECORD_WORDS - 1;
+        match random.below(10) {
+            _ if count == 0 => {}
+            0 => batch[arrival(random.below(count))] = 0,
+            1 | 2 => {
+                let from = batch[arrival(random.below(count))];
+                batch[arrival(random.below(count))] = from;
+            }
+            // Some last words are missing, be it the arrival number alone.
+            3 => batch.truncate(batch.len() - 1 - random.below(4)),
+            _ => {}
         }
         if judge_batch(&batch) != 0 {
             return batch;

@@ -7,6 +7,8 @@ use crate::second::block;
 use crate::second::layout::MAP_ENTRY_WORDS;
 use crate::second::{self, Configuration, Pair, HIGHEST};
 
+const TOP: u32 = u32::MAX;
+
 /// The right length of a card, for B and N within their limits.
 pub fn right_length(b: u32, n: u32) -> usize {
     second::card_words(b, n) as usize
@@ -221,6 +223,158 @@ pub fn over_many_blocks(random: &mut Random, terms: u32, most: u32) -> Vec<u32> 
     }
     let start = random.below(n as usize) as u32;
     laid_out(memory(random, 8, n), 8, n, start, &old, &new)
+}
+
+/// A sound card of these blocks, all its other words 2.
+pub fn of_blocks(b: u32, n: u32, start: u32, old: &[Vec<Pair>], new: &[Vec<Pair>]) -> Vec<u32> {
+    let card = laid_out(vec![2; right_length(b, n)], b, n, start, old, new);
+    assert_eq!(second::judge(&card), 0);
+    card
+}
+
+/// Cards that the judge gives each number, some wrong in other ways as well, and sound ones: fresh,
+/// with 8 at once, with 8 to come, in mid-pass. The judge's number stands beside each.
+pub fn of_every_number() -> Vec<(u32, Vec<u32>)> {
+    let old: Vec<Vec<Pair>> = (5..8)
+        .map(|term| (1..=6).map(|position| (term * 3, position * 5)).collect())
+        .collect();
+    let new: Vec<Vec<Pair>> = vec![(1..=6).map(|position| (3, position)).collect()];
+    let sound = of_blocks(8, 5, 3, &old, &new);
+    let with = |changes: &[(usize, u32)]| {
+        let mut card = sound.clone();
+        for &(word, value) in changes {
+            card[word] = value;
+        }
+        card
+    };
+    let map = |place: usize| 8 + 2 * place;
+    let block = |place: usize| 18 + 8 * place;
+    vec![
+        (0, sound.clone()),
+        (0, of_blocks(8, 5, 3, &old, &[])),
+        (0, of_blocks(8, 4, 0, &old, &[])),
+        (0, of_blocks(8, 2, 1, &[], &[])),
+        (1, vec![]),
+        (1, sound[..7].to_vec()),
+        (1, vec![0; 7]),
+        (1, sound[..57].to_vec()),
+        (1, [&sound[..], &[0]].concat()),
+        (1, with(&[(1, 9), (3, 9), (4, 9)])),
+        (2, with(&[(0, 0)])),
+        (2, with(&[(0, 2), (1, 7)])),
+        (2, vec![0; 8]),
+        (2, with(&[(0, TOP), (map(3), 9)])[..40].to_vec()),
+        (3, with(&[(1, 7)])),
+        (3, with(&[(2, 1025), (block(3), 0)])),
+        (3, with(&[(1, 0)])[..20].to_vec()),
+        (3, with(&[(3, 5)])),
+        (3, with(&[(4, 4)])),
+        (3, with(&[(5, 2)])),
+        (3, with(&[(6, 0)])),
+        (3, with(&[(7, 0), (map(3), 9)])),
+        (3, with(&[(5, 0)])),
+        (4, with(&[(map(3), 9)])),
+        (4, with(&[(map(1) + 1, 9)])),
+        (4, with(&[(block(3), 0)])),
+        (4, with(&[(block(4) + 1, 9)])),
+        (4, with(&[(block(0) + 7, 1)])),
+        (4, with(&[(6, 4)])),
+        (4, with(&[(7, 5)])),
+    ]
+}
+
+/// Every set of pairs over three terms and three positions, as packed blocks of 8 words.
+pub fn every_small_index() -> Vec<Vec<Vec<Pair>>> {
+    let numbers = [1, 2, TOP];
+    let pairs = numbers.map(|term| numbers.map(|position| (term, position)));
+    let pairs = pairs.concat();
+    let chosen = |chosen: usize| {
+        let set = pairs.iter().enumerate();
+        set.filter(move |(i, _)| chosen >> i & 1 == 1)
+            .map(|(_, &pair)| pair)
+    };
+    (0..1usize << pairs.len())
+        .map(|which| packed(chosen(which), 8))
+        .collect()
+}
+
+/// B and N from the smallest to the largest, but not both.
+pub const MANY_SHAPES: [(u32, u32); 15] = [
+    (8, 2),
+    (8, 3),
+    (9, 2),
+    (10, 3),
+    (8, 100),
+    (8, 1024),
+    (9, 1023),
+    (1024, 2),
+    (1024, 3),
+    (1023, 4),
+    (1024, 9),
+    (64, 64),
+    (257, 20),
+    (16, 300),
+    (500, 12),
+];
+
+/// A card that is fresh where it is small, else well filled already, from any place on.
+pub fn well_filled(random: &mut Random, b: u32, n: u32) -> Vec<u32> {
+    let card = fresh(random, b, n);
+    if b * n <= 2_000 {
+        return card;
+    }
+    let live = match random.below(3) {
+        0 => n as usize - 1,
+        _ => n as usize - 1 - random.below(n as usize / 2),
+    };
+    let mut cursor = (0, 0);
+    let old = segment(random, b, live, &mut cursor, false);
+    let start = n - 1 - random.below(n as usize / 2) as u32;
+    let card = laid_out(card, b, n, start, &old, &[]);
+    assert_eq!(second::judge(&card), 0);
+    card
+}
+
+/// A block of the largest card: 341 entries of one position each, or fewer entries of several.
+pub fn large_block(number: u32) -> Vec<Pair> {
+    let several = 1 + number % 4;
+    let entries = 1024 / (2 + several);
+    (0..entries * several)
+        .map(|i| (number * 400 + i / several, TOP - 9 + i % several))
+        .collect()
+}
+
+/// Small cards in every state: fresh, after passes, in mid-pass, full, full in mid-pass.
+pub fn small() -> Vec<Vec<u32>> {
+    let few = vec![(1, 1), (1, 2), (2, TOP)];
+    let full = vec![(1, 2), (1, TOP), (2, 1), (2, 2)];
+    let high = vec![(TOP, 1), (TOP, 2), (TOP, TOP)];
+    let low = vec![(1, 1), (1, 2)];
+    let across = vec![(2, 1), (TOP, TOP)];
+    vec![
+        of_blocks(8, 3, 0, &[], &[]),
+        of_blocks(8, 2, 1, &[full.clone()], &[]),
+        of_blocks(8, 3, 2, &[few.clone(), high.clone()], &[]),
+        of_blocks(8, 4, 3, &[full.clone()], &[low]),
+        of_blocks(8, 3, 1, &[high.clone()], &[full]),
+        of_blocks(8, 2, 0, &[], &[few.clone()]),
+        of_blocks(8, 4, 2, &[across], &[few, vec![(3, 3)]]),
+        of_blocks(8, 3, 2, &[], &[high]),
+    ]
+}
+
+/// A card in mid-pass whose boundary is the highest pair, or the last position of a term.
+pub fn bounded_at_the_top(random: &mut Random, b: u32, n: u32) -> Vec<u32> {
+    let last = random.pick(&[HIGHEST, (TOP, TOP - 1), (7, TOP), (TOP - 1, TOP)]);
+    let old: Vec<Vec<Pair>> = match last {
+        (TOP, TOP) => vec![],
+        (TOP, _) => vec![vec![HIGHEST]],
+        (term, _) => vec![vec![(term, 9), (term, TOP), (term + 1, 1)]],
+    };
+    let n = n.max(3);
+    let card = laid_out(memory(random, b, n), b, n, 1, &old, &[vec![(5, 5), last]]);
+    assert_eq!(second::judge(&card), 0);
+    card
 }
 
 /// The new and the old blocks of a card that holds one term, nearly full: `live` blocks in all, the

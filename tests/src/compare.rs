@@ -3,7 +3,7 @@
 use crate::batches;
 use crate::ffi;
 use crate::random::Random;
-use crate::second::batch::ADD;
+use crate::second::batch::{ADD, RECORD_WORDS};
 use crate::second::page::{page_bytes, LINE_BYTES, LINE_POSITIONS};
 use crate::second::{
     self, Configuration, ForecastAnswer, LookupAnswer, PageAnswer, ScoresAnswer, StepAnswer,
@@ -142,6 +142,36 @@ pub fn format(tally: &mut Tally, random: &mut Random, card: &[u32], b: u32, n: u
     tally.note(number);
 }
 
+/// What steps and forecasts have in common: the tally of the numbers that came.
+macro_rules! with_numbers {
+    ($compared:ident) => {
+        impl $compared {
+            pub fn new() -> $compared {
+                $compared::default()
+            }
+
+            pub fn of(&self, number: u32) -> u64 {
+                self.numbers.of(number)
+            }
+
+            pub fn total(&self) -> u64 {
+                self.numbers.total()
+            }
+
+            /// Prints the test's lines.
+            pub fn report(&self, test: &str) {
+                self.numbers.report(test);
+                println!("{test}: {self:?}");
+            }
+
+            /// Fails unless each of these numbers came at least `least` times.
+            pub fn expect(&self, numbers: &[u32], least: u64) {
+                self.numbers.expect(numbers, least);
+            }
+        }
+    };
+}
+
 /// What the compared steps met: how often each number, write and shape came.
 #[derive(Clone, Debug, Default)]
 pub struct Steps {
@@ -164,30 +194,9 @@ pub struct Steps {
     pub passes_at_the_limit: u64,
 }
 
+with_numbers!(Steps);
+
 impl Steps {
-    pub fn new() -> Steps {
-        Steps::default()
-    }
-
-    pub fn of(&self, number: u32) -> u64 {
-        self.numbers.of(number)
-    }
-
-    pub fn total(&self) -> u64 {
-        self.numbers.total()
-    }
-
-    /// Prints the test's lines.
-    pub fn report(&self, test: &str) {
-        self.numbers.report(test);
-        println!("{test}: {self:?}");
-    }
-
-    /// Fails unless each of these numbers came at least `least` times.
-    pub fn expect(&self, numbers: &[u32], least: u64) {
-        self.numbers.expect(numbers, least);
-    }
-
     /// Fails unless every kind of write and every shape came at least `least` times.
     pub fn expect_every_shape(&self, least: u64) {
         for count in [
@@ -458,30 +467,9 @@ pub struct Forecasts {
     pub runs_at_the_limit: u64,
 }
 
+with_numbers!(Forecasts);
+
 impl Forecasts {
-    pub fn new() -> Forecasts {
-        Forecasts::default()
-    }
-
-    pub fn of(&self, number: u32) -> u64 {
-        self.numbers.of(number)
-    }
-
-    pub fn total(&self) -> u64 {
-        self.numbers.total()
-    }
-
-    /// Prints the test's lines.
-    pub fn report(&self, test: &str) {
-        self.numbers.report(test);
-        println!("{test}: {self:?}");
-    }
-
-    /// Fails unless each of these numbers came at least `least` times.
-    pub fn expect(&self, numbers: &[u32], least: u64) {
-        self.numbers.expect(numbers, least);
-    }
-
     /// Fails unless every outcome and every shape came at least `least` times.
     pub fn expect_every_shape(&self, least: u64) {
         for count in [
@@ -528,7 +516,7 @@ impl Forecasts {
         let through = answer.finishes && answer.blocks > 1;
         self.finishing_with_one_free += u64::from(free == 1 && through);
         self.stopping_with_two_free += u64::from(free == 2 && stops);
-        let mut kinds = batch.iter().step_by(second::batch::RECORD_WORDS);
+        let mut kinds = batch.iter().step_by(RECORD_WORDS);
         let removals = !batch.is_empty() && !kinds.any(|&kind| kind == ADD);
         self.removals_alone += u64::from(removals);
         self.stopping_with_removals_alone += u64::from(removals && stops);
@@ -901,8 +889,8 @@ pub fn scores(
         let word = first_difference(lent.inside(), &expected_words);
         panic!(
             "word {} of record {} is {}, the second program's {}; {}",
-            word % 4,
-            word / 4,
+            word % RECORD_WORDS,
+            word / RECORD_WORDS,
             lent.inside()[word],
             expected_words[word],
             message()
@@ -930,7 +918,7 @@ pub fn scores_by_room(
     if need > 0 {
         sizes.extend([need - 1, 0]);
         if random.chance(1, 3) {
-            sizes.extend([need - 4, random.below(need)]);
+            sizes.extend([need - RECORD_WORDS, random.below(need)]);
         }
     }
     for size in sizes {

@@ -4,13 +4,15 @@ use crate::batches::{self, Mixture, Universe};
 use crate::random::Random;
 use crate::second::batch::{self, Record, ADD, ANNUL};
 
-/// The line of a record, without a line feed; none says a removal under every term.
+/// The line of a record, without a line feed; none says a removal under every term. Where the line
+/// stands is the record's arrival number.
 pub fn line(record: &Record) -> Vec<u8> {
     let Record {
         kind,
         term,
         from,
         to,
+        ..
     } = record;
     assert_ne!(*kind, ANNUL, "no line says it");
     if *kind == ADD {

@@ -26,7 +26,7 @@ fn annul_a_round_written_out() {
     ];
     let mut card = cards::laid_out(vec![77; 58], 8, 5, 4, &old, &[]);
     assert_eq!(card[..8], [1, 8, 5, 4, 2, 0, 0, 0]);
-    let batch = [3, 0, 3, 9, 1, 7, 9, 9];
+    let batch = [3, 0, 3, 9, 1, 1, 7, 9, 9, 2];
     let mut expected = card.clone();
     let mut next = |card: &mut [u32], expected: &[u32], batch: &[u32], answer| {
         let given = compare::step(&mut steps, card, batch, &String::new);
@@ -56,7 +56,7 @@ fn annul_a_round_written_out() {
     }
     // All that is left goes in one step.
     expected[3..5].copy_from_slice(&[3, 0]);
-    next(&mut card, &expected, &[3, 0, 1, TOP], done(3, 2, true));
+    next(&mut card, &expected, &[3, 0, 1, TOP, 1], done(3, 2, true));
     steps.report("annul_a_round_written_out");
 }
 
@@ -80,8 +80,9 @@ fn annul_refusals() {
     let card = cards::stepped(&mut random, 8, 4);
     for annulments in [0, 1, 2, 4095, 4096, 4097] {
         for count in [4095, 4096, 4097, 4098] {
-            let mut batch = annulment(9, 12).words().repeat(count.min(annulments));
+            let mut batch = [3, 0, 9, 12].repeat(count.min(annulments));
             batch.extend([2, 5, 2, 2].repeat(count.saturating_sub(annulments)));
+            let batch = batches::arriving(&mut random, &batch);
             let mut card = card.clone();
             let answer = compare::step(&mut steps, &mut card, &batch, &String::new);
             assert_eq!(answer.number == 6, count > 4096);
@@ -179,14 +180,14 @@ fn annul_with_every_few_stretches() {
     for card in &cards {
         for batch in &batches {
             let mut batch: Vec<Record> = batch.clone();
-            let mut pass = |batch: &[Record]| {
-                let words: Vec<u32> = batch.iter().flat_map(Record::words).collect();
+            let mut pass = |random: &mut Random, batch: &[Record]| {
+                let words = batches::drawn_words(random, batch.to_vec());
                 assert_eq!(second::judge_batch(&words), 0);
                 compare::pass(&mut steps, &mut card.clone(), &words, &String::new);
             };
-            pass(&batch);
+            pass(&mut random, &batch);
             batch.push(random.pick(&others));
-            pass(&batch);
+            pass(&mut random, &batch);
         }
     }
     steps.report("annul_with_every_few_stretches");
@@ -433,7 +434,7 @@ fn annul_stretches_of_every_shape() {
                             _ => addition(term, position),
                         });
                     }
-                    let batch = batches::words(all);
+                    let batch = batches::drawn_words(&mut random, all);
                     let about = || format!("{count} {shape:?} on {along:?}, round {round}");
                     if round % 3 == 2 {
                         // Part of a pass without records before it.
@@ -502,7 +503,7 @@ fn annul_on_many_small_cards() {
         let pairs = along.pairs(&mut random, &places, 30);
         let b = random.pick(&[8, 9, 12, 30, 80]);
         let mut card = card_of(&mut random, b, &pairs, 2);
-        let batch = batches::words(records.clone());
+        let batch = batches::drawn_words(&mut random, records.clone());
         let about = || format!("{count} {shape:?} on {along:?}");
         let number = compare::pass(&mut steps, &mut card, &batch, &about);
         // Removals alone, two places free.
@@ -548,7 +549,7 @@ fn annul_in_mid_pass() {
                 let more = batches::good(&mut random, &universe, Mixture::Additions, 8);
                 records.extend(second::batch::records(&more));
             }
-            let batch = batches::words(records);
+            let batch = batches::drawn_words(&mut random, records);
             let opened = Configuration::read(&card).new_length > 0;
             changes += u64::from(opened && batches::annuls(&batch));
             for _ in 0..1 + random.below(8) {
@@ -588,7 +589,7 @@ fn annul_on_large_cards() {
         let card = cards::laid_out(memory, b, n, start, &old, &[]);
         let about = || format!("B {b}, N {n}");
         let mut emptied = card.clone();
-        let answer = compare::step(&mut steps, &mut emptied, &[3, 0, 1, TOP], &about);
+        let answer = compare::step(&mut steps, &mut emptied, &[3, 0, 1, TOP, 1], &about);
         assert_eq!(answer, done(3, n - 2, true));
         for batch in [
             vec![annulment(1, 1_000_000), annulment(TOP - 1, TOP)],
@@ -624,7 +625,7 @@ fn annul_on_large_cards() {
         let narrow: Vec<Record> = (0..4096)
             .map(|i| annulment(i * stride + 1, i * stride + stride / (2 + i % 5)))
             .collect();
-        let mut batch = batches::words(narrow);
+        let mut batch = batches::drawn_words(&mut random, narrow);
         let mut card = card.clone();
         let about = || format!("the largest card, one term {one_term}");
         for write in 1..=2 {

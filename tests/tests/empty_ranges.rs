@@ -3,16 +3,16 @@
 // records are left out.
 
 use gameindex_tests::batches::{
-    self, addition, annulment, removal, Mixture, Stretches, Universe, EMPTY_RANGES,
-    EMPTY_RANGES_IN_ORDER, WRONG_EMPTY_RANGES,
+    self, addition, annulment, removal, without_arrival, Mixture, Stretches, Universe,
+    EMPTY_RANGES, EMPTY_RANGES_IN_ORDER, PLAIN_WORDS, WRONG_EMPTY_RANGES,
 };
 use gameindex_tests::cards;
 use gameindex_tests::compare::{self, done, refused, Question, Steps, Tally};
 use gameindex_tests::ffi;
 use gameindex_tests::questions;
 use gameindex_tests::random::Random;
-use gameindex_tests::second::batch::{self, Record, MOST_RECORDS};
-use gameindex_tests::second::{self, Configuration, Pair, StepAnswer};
+use gameindex_tests::second::batch::{self, Record, MOST_RECORDS, RECORD_WORDS};
+use gameindex_tests::second::{self, Configuration, StepAnswer};
 
 const TOP: u32 = u32::MAX;
 
@@ -73,13 +73,6 @@ fn ask(tally: &mut Tally, random: &mut Random, card: &[u32], batch: &[u32]) {
     }
 }
 
-fn laid_out(b: u32, n: u32, start: u32, old: &[Vec<Pair>], new: &[Vec<Pair>]) -> Vec<u32> {
-    let memory = vec![2; cards::right_length(b, n)];
-    let card = cards::laid_out(memory, b, n, start, old, new);
-    assert_eq!(second::judge(&card), 0);
-    card
-}
-
 /// Cards with pairs at 2 to 9 under terms 5 and 7: fresh, after passes, with a pass open whose
 /// boundary stands before, inside and behind these, with one place free and with more.
 fn small_cards() -> Vec<Vec<u32>> {
@@ -91,19 +84,19 @@ fn small_cards() -> Vec<Vec<u32>> {
     let behind = vec![(5, 2), (5, 9), (8, 1)];
     let full = |term: u32| [1, 2, 3, 4, 8, 9].map(|position| (term, position)).to_vec();
     vec![
-        laid_out(8, 3, 1, &[], &[]),
-        laid_out(8, 4, 0, &[few.clone()], &[]),
-        laid_out(8, 2, 1, &[few.clone()], &[]),
-        laid_out(8, 5, 4, &[close.clone(), ends.clone()], &[]),
-        laid_out(8, 3, 2, &[close.clone(), ends.clone()], &[]),
-        laid_out(8, 5, 3, &[few], &[low]),
-        laid_out(8, 5, 2, &[close.clone(), ends.clone()], &[inside.clone()]),
-        laid_out(8, 4, 1, &[close.clone(), ends.clone()], &[inside]),
-        laid_out(8, 4, 3, &[vec![(8, 1), (8, 2)]], &[behind.clone()]),
-        laid_out(8, 3, 0, &[], &[behind]),
-        laid_out(8, 3, 1, &[full(5), full(7)], &[]),
-        laid_out(8, 4, 2, &[full(5), full(7)], &[vec![(2, 2), (4, 3)]]),
-        laid_out(16, 3, 2, &[[close, ends].concat()], &[]),
+        cards::of_blocks(8, 3, 1, &[], &[]),
+        cards::of_blocks(8, 4, 0, &[few.clone()], &[]),
+        cards::of_blocks(8, 2, 1, &[few.clone()], &[]),
+        cards::of_blocks(8, 5, 4, &[close.clone(), ends.clone()], &[]),
+        cards::of_blocks(8, 3, 2, &[close.clone(), ends.clone()], &[]),
+        cards::of_blocks(8, 5, 3, &[few], &[low]),
+        cards::of_blocks(8, 5, 2, &[close.clone(), ends.clone()], &[inside.clone()]),
+        cards::of_blocks(8, 4, 1, &[close.clone(), ends.clone()], &[inside]),
+        cards::of_blocks(8, 4, 3, &[vec![(8, 1), (8, 2)]], &[behind.clone()]),
+        cards::of_blocks(8, 3, 0, &[], &[behind]),
+        cards::of_blocks(8, 3, 1, &[full(5), full(7)], &[]),
+        cards::of_blocks(8, 4, 2, &[full(5), full(7)], &[vec![(2, 2), (4, 3)]]),
+        cards::of_blocks(16, 3, 2, &[[close, ends].concat()], &[]),
     ]
 }
 
@@ -138,7 +131,8 @@ fn empty_ranges_written_out() {
         let given = compare::step(&mut steps, card, batch, &String::new);
         assert_eq!((given, &*card), (answer, expected), "{batch:?}");
     };
-    for (batch, block) in cases {
+    for (plain, block) in cases {
+        let batch = &batches::numbered(plain);
         // The due place is 1: its map entry stands at word 10, its block at word 24.
         let mut card = card.clone();
         let mut expected = card.clone();
@@ -152,12 +146,12 @@ fn empty_ranges_written_out() {
     // P6: one step. On a fresh card nothing remains either.
     let mut expected = card.clone();
     expected[3..5].copy_from_slice(&[1, 0]);
-    let batch = [
+    let batch = batches::numbered(&[
         3, 0, 4, 2, 2, 5, 1, TOP, 2, 5, 9, 2, 2, 7, 1, TOP, 2, TOP, TOP, 1,
-    ];
+    ]);
     next(&mut card.clone(), &expected, &batch, done(3, 1, true));
-    let fresh = laid_out(8, 4, 0, &[], &[]);
-    for batch in [[2, 5, 9, 3], [3, 0, 9, 3], [2, 5, TOP, 1]] {
+    let fresh = cards::of_blocks(8, 4, 0, &[], &[]);
+    for batch in [[2, 5, 9, 3, 1], [3, 0, 9, 3, 2], [2, 5, TOP, 1, TOP]] {
         next(&mut fresh.clone(), &fresh, &batch, done(3, 0, true));
     }
     steps.report("empty_ranges_written_out");
@@ -187,13 +181,14 @@ fn fitting(records: &[Record], at: usize) -> Vec<Record> {
 
 /// Whether the batch with this record put in at a place is judged 0.
 fn in_order(records: &[Record], at: usize, record: &Record) -> bool {
-    second::judge_batch(&put_in(records, at, record)) == 0
+    second::judge_batch(&batches::numbered(&put_in(records, at, record))) == 0
 }
 
+/// The records without arrival numbers, with this one put in.
 fn put_in(records: &[Record], at: usize, record: &Record) -> Vec<u32> {
     let mut records = records.to_vec();
     records.insert(at, *record);
-    records.iter().flat_map(Record::words).collect()
+    records.iter().flat_map(without_arrival).collect()
 }
 
 /// An empty range before, between and behind all records of batches, then one at every place of them:
@@ -219,7 +214,7 @@ fn empty_ranges_at_every_place_of_a_batch() {
     ];
     for card in small_cards() {
         for plain in plain {
-            let records = batch::records(plain);
+            let records = batch::records(&batches::numbered(plain));
             let fitting: Vec<Vec<Record>> = (0..=records.len())
                 .map(|at| fitting(&records, at))
                 .collect();
@@ -227,6 +222,7 @@ fn empty_ranges_at_every_place_of_a_batch() {
                 assert!(!fitting.is_empty(), "nothing fits at {at} of {plain:?}");
                 for record in fitting {
                     let batch = put_in(&records, at, record);
+                    let batch = batches::arriving(&mut random, &batch);
                     let about = || format!("{record:?} at {at} of {plain:?}");
                     pass(&mut steps, &mut card.clone(), &batch, &about);
                     annulling += u64::from(record.term == 0);
@@ -236,9 +232,10 @@ fn empty_ranges_at_every_place_of_a_batch() {
             for _ in 0..6 {
                 let mut batch: Vec<u32> = Vec::new();
                 for (at, fitting) in fitting.iter().enumerate() {
-                    batch.extend(random.pick(fitting).words());
-                    batch.extend(records.get(at).iter().flat_map(|record| record.words()));
+                    batch.extend(without_arrival(&random.pick(fitting)));
+                    batch.extend(records.get(at).into_iter().flat_map(without_arrival));
                 }
+                let batch = batches::arriving(&mut random, &batch);
                 let about = || format!("at every place of {plain:?}");
                 pass(&mut steps, &mut card.clone(), &batch, &about);
             }
@@ -276,18 +273,14 @@ fn empty_ranges_with_every_other_record() {
             }
             batches += 1;
             for card in &cards {
-                let batch: Vec<u32> = chosen.iter().flat_map(Record::words).collect();
+                let batch = batches::drawn_words(&mut random, chosen.clone());
                 pass(&mut steps, &mut card.clone(), &batch, &String::new);
             }
             for _ in 0..2 {
                 chosen.push(random.pick(&records));
                 let mut card = cards[random.below(cards.len())].clone();
-                pass(
-                    &mut steps,
-                    &mut card,
-                    &batches::words(chosen.clone()),
-                    &String::new,
-                );
+                let batch = batches::drawn_words(&mut random, chosen.clone());
+                pass(&mut steps, &mut card, &batch, &String::new);
             }
         }
     }
@@ -302,7 +295,7 @@ fn empty_ranges_with_every_other_record() {
 fn many_empty(random: &mut Random, count: usize) -> Vec<u32> {
     let kind = random.below(6);
     let terms = [1, 5, 7, TOP - 1, TOP];
-    let records = (0..count as u32).map(|i| {
+    let record = |i: u32, random: &mut Random| {
         let (from, to) = random.pick(&EMPTY_RANGES);
         match kind {
             0 => removal(5, i + 2, i + 1),
@@ -313,8 +306,9 @@ fn many_empty(random: &mut Random, count: usize) -> Vec<u32> {
             _ if random.chance(1, 2) => annulment(from, to),
             _ => removal(random.pick(&terms), from, to),
         }
-    });
-    batches::words(records.collect())
+    };
+    let records = (0..count as u32).map(|i| record(i, random)).collect();
+    batches::drawn_words(random, records)
 }
 
 /// Empty ranges alone, up to the most records: no pair changes, 8 never comes, and each step is that
@@ -345,7 +339,12 @@ fn empty_ranges_alone() {
             let batch = many_empty(&mut random, MOST_RECORDS + 1);
             let answer = compare::step(&mut steps, &mut card.clone(), &batch, &String::new);
             assert_eq!(answer, refused(6));
-            let number = pass(&mut steps, &mut card.clone(), &batch[4..], &String::new);
+            let number = pass(
+                &mut steps,
+                &mut card.clone(),
+                &batch[RECORD_WORDS..],
+                &String::new,
+            );
             assert_eq!(number, 0);
         }
     }
@@ -397,7 +396,8 @@ impl Boundaries {
 }
 
 /// The batch with some empty ranges more, at pairs of the card, at froms of the batch and anywhere,
-/// before or behind records of the same term and from.
+/// before or behind records of the same term and from. They arrive at any time; the others arrive in
+/// the order they had.
 fn with_more(random: &mut Random, card: &[u32], batch: &[u32]) -> Vec<u32> {
     let known = questions::known_pairs(card);
     let records = batch::records(batch);
@@ -416,16 +416,22 @@ fn with_more(random: &mut Random, card: &[u32], batch: &[u32]) -> Vec<u32> {
             3 => (TOP, 1),
             _ => (from, random.pick(&known).1.min(from - 1)),
         };
-        more.push(match random.below(3) {
+        let record = match random.below(3) {
             0 => annulment(from, to),
             _ => removal(term, from, to),
-        });
+        };
+        let arrival = match random.below(3) {
+            0 => TOP,
+            1 if !records.is_empty() => random.pick(&records).arrival,
+            _ => random.word(),
+        };
+        more.push(Record { arrival, ..record });
     }
     let both = match random.below(2) {
         0 => [more, records].concat(),
         _ => [records, more].concat(),
     };
-    batches::words(both)
+    batches::by_arrival(random, both)
 }
 
 /// A drawn batch with such ranges, over a universe or at the card's own pairs.
@@ -498,9 +504,10 @@ fn empty_ranges_refused() {
             }
         }
         for good in EMPTY_RANGES_IN_ORDER {
-            let longest = MOST_RECORDS - good.len() / 4;
+            let longest = MOST_RECORDS - good.len() / PLAIN_WORDS;
             for behind in [0, random.below(4), longest * usize::from(round < 4)] {
                 let batch = [good, &[2, TOP, TOP, 1].repeat(behind)].concat();
+                let batch = batches::arriving(&mut random, &batch);
                 let number = pass(&mut steps, &mut card.clone(), &batch, &String::new);
                 assert!(number == 0 || number == 8, "{good:?} gave {number}");
             }
@@ -512,7 +519,7 @@ fn empty_ranges_refused() {
             for term in [0, 1, 5, 7, TOP] {
                 for from in [0, 1, 2, 4, 9, TOP] {
                     for to in [0, 1, 2, 4, 9, TOP] {
-                        let record = [kind, term, from, to];
+                        let record = [kind, term, from, to, 1];
                         let right_term = (kind == 3) == (term == 0);
                         let zero = from == 0 || to == 0;
                         let accepted = match kind {
@@ -628,7 +635,7 @@ fn empty_ranges_among_many_annulments() {
                 let start = random.below(n as usize) as u32;
                 let memory = cards::memory(&mut random, b, n);
                 let mut card = cards::laid_out(memory, b, n, start, &old, &[]);
-                let batch = batches::words(records);
+                let batch = batches::drawn_words(&mut random, records);
                 let about = || format!("{count} {shape:?}, round {round}");
                 let number = pass(&mut steps, &mut card, &batch, &about);
                 // Removals alone, two places free.
@@ -652,7 +659,7 @@ fn empty_ranges_on_large_cards() {
         let live = n as usize - 2;
         let (new, old) = cards::blocks_of_one_term(9, b, random.below(live), live);
         let start = random.below(n as usize) as u32;
-        let card = laid_out(b, n, start, &old, &new);
+        let card = cards::of_blocks(b, n, start, &old, &new);
         let index = second::live_pairs(&card).len();
         for with_others in [false, true] {
             let mut card = card.clone();
@@ -665,7 +672,7 @@ fn empty_ranges_on_large_cards() {
                 records.extend((0..90).map(|i| removal(9, i * 300 + 1, i * 300 + 40)));
                 records.extend((0..6).map(|i| addition(9, i * 301 + 4)));
             }
-            let batch = batches::words(records);
+            let batch = batches::drawn_words(&mut random, records);
             let mut beside = Beside::new(&card, &batch);
             let about = || format!("B {b}, N {n}");
             for _ in 0..most {
@@ -697,7 +704,7 @@ fn empty_ranges_looked_up() {
         let b = random.pick(&[8, 9, 12]);
         let n = random.within(3, 7);
         let mut card = cards::any(&mut random, b, n);
-        let batch = with_more(&mut random, &card, &[1, 5, 9, 9, 1, 7, 4, 4]);
+        let batch = with_more(&mut random, &card, &[1, 5, 9, 9, 1, 1, 7, 4, 4, 2]);
         cards::run(&mut card, &batch, random.below(9));
         asked.push(card);
     }

@@ -13,8 +13,8 @@ use gameindex_tests::ffi;
 use gameindex_tests::lists::{Figures, List};
 use gameindex_tests::questions;
 use gameindex_tests::random::Random;
-use gameindex_tests::second::batch::{self, Record, ADD, MOST_RECORDS};
-use gameindex_tests::second::{self, Configuration, ForecastAnswer, Pair, HIGHEST};
+use gameindex_tests::second::batch::{self, Record, ADD, MOST_RECORDS, RECORD_WORDS};
+use gameindex_tests::second::{self, Configuration, ForecastAnswer, Pair};
 
 const TOP: u32 = u32::MAX;
 
@@ -26,16 +26,6 @@ fn figures(blocks: u32, limit: u32, finishes: bool, writes: u32) -> ForecastAnsw
         limit,
         finishes,
         writes,
-    }
-}
-
-/// A good batch, over a universe or at the card's own pairs.
-fn any_batch(random: &mut Random, card: &[u32], universe: &Universe, most: usize) -> Vec<u32> {
-    let mixture = Mixture::random(random);
-    if random.chance(1, 2) {
-        batches::near(random, card, mixture, most)
-    } else {
-        batches::good(random, universe, mixture, most)
     }
 }
 
@@ -53,19 +43,11 @@ fn forecast_or_run(
     }
 }
 
-/// A sound card of these blocks, all its other words 2.
-fn laid_out(b: u32, n: u32, start: u32, old: &[Vec<Pair>], new: &[Vec<Pair>]) -> Vec<u32> {
-    let memory = vec![2; cards::right_length(b, n)];
-    let card = cards::laid_out(memory, b, n, start, old, new);
-    assert_eq!(second::judge(&card), 0);
-    card
-}
-
 /// P1's card, its other words leftovers of one value.
 fn p1(n: u32, leftovers: u32) -> Vec<u32> {
     let mut card = vec![leftovers; cards::right_length(8, n)];
     assert_eq!(ffi::format(&mut card, 8, n), 0);
-    let batch = [1, 5, 2, 2, 1, 5, 9, 9, 1, 7, 4, 4];
+    let batch = [1, 5, 2, 2, 1, 1, 5, 9, 9, 2, 1, 7, 4, 4, 3];
     assert_eq!(ffi::forecast(&card, &batch), figures(1, 3, true, 0));
     while !ffi::step(&mut card, &batch).finished {}
     assert_eq!(card[..8], [1, 8, n, 0, 1, 0, 0, 0]);
@@ -76,9 +58,11 @@ fn p1(n: u32, leftovers: u32) -> Vec<u32> {
 #[test]
 fn forecast_on_the_papers_cases() {
     let mut forecasts = Forecasts::new();
-    let mut run = |card: &[u32], batch: &[u32], expected: ForecastAnswer| {
+    // The additions arrive after all removals.
+    let mut run = |card: &[u32], plain: &[u32], expected: ForecastAnswer| {
+        let batch = batches::numbered(plain);
         let about = || format!("{batch:?}");
-        let given = compare::forecast_run(&mut forecasts, card, batch, &about);
+        let given = compare::forecast_run(&mut forecasts, card, &batch, &about);
         assert_eq!(given, expected, "{batch:?}");
     };
     for leftovers in [0, 5, TOP] {
@@ -102,7 +86,7 @@ fn forecast_on_the_papers_cases() {
         run(&card_2, &[1, 8, 1, 1], figures(2, 6, false, 1));
         let mut stopped = card_2.clone();
         for _ in 0..3 {
-            assert_eq!(ffi::step(&mut stopped, &[1, 8, 1, 1]).number, 0);
+            assert_eq!(ffi::step(&mut stopped, &[1, 8, 1, 1, 1]).number, 0);
         }
         assert_eq!(stopped[..8], [1, 8, 2, 1, 0, 1, 7, 4]);
         run(&stopped, &[1, 8, 1, 1], figures(1, 3, false, 0));
@@ -119,6 +103,18 @@ fn forecast_on_the_papers_cases() {
         run(&card, &[3, 0, 1, 9], figures(0, 1, true, 0));
         run(&card, &[3, 0, 1, 9, 1, 7, 4, 4], figures(1, 3, true, 0));
     }
+    // P5 and P6 by arrival: what is added first goes.
+    let mut run = |batch: &[u32], expected: ForecastAnswer| {
+        let about = || format!("{batch:?}");
+        let given = compare::forecast_run(&mut forecasts, &p1(4, 5), batch, &about);
+        assert_eq!(given, expected, "{batch:?}");
+    };
+    run(&[2, 5, 2, 9, 1, 1, 5, 9, 9, 2], figures(1, 3, true, 0));
+    run(&[2, 5, 2, 9, 2, 1, 5, 9, 9, 1], figures(1, 3, true, 0));
+    run(&[3, 0, 1, 9, 1, 1, 7, 4, 4, 2], figures(1, 3, true, 0));
+    run(&[3, 0, 1, 9, 2, 1, 7, 4, 4, 1], figures(0, 1, true, 0));
+    run(&[1, 8, 1, 1, 1, 2, 8, 1, 1, 2], figures(1, 3, true, 0));
+    run(&[1, 8, 1, 1, 2, 2, 8, 1, 1, 1], figures(2, 6, true, 0));
     forecasts.report("forecast_on_the_papers_cases");
 }
 
@@ -368,144 +364,77 @@ fn forecast_on_every_small_circle() {
     assert!(forecasts.stopping_in_mid_pass > 2_000 && forecasts.stopping_with_two_free > 500);
 }
 
-/// Small cards in every state: fresh, after passes, in mid-pass, full, full in mid-pass.
-fn small_cards() -> Vec<Vec<u32>> {
-    let few = vec![(1, 1), (1, 2), (2, TOP)];
-    let full = vec![(1, 2), (1, TOP), (2, 1), (2, 2)];
-    let high = vec![(TOP, 1), (TOP, 2), (TOP, TOP)];
-    let low = vec![(1, 1), (1, 2)];
-    let across = vec![(2, 1), (TOP, TOP)];
-    vec![
-        laid_out(8, 3, 0, &[], &[]),
-        laid_out(8, 2, 1, &[full.clone()], &[]),
-        laid_out(8, 3, 2, &[few.clone(), high.clone()], &[]),
-        laid_out(8, 4, 3, &[full.clone()], &[low]),
-        laid_out(8, 3, 1, &[high.clone()], &[full]),
-        laid_out(8, 2, 0, &[], &[few.clone()]),
-        laid_out(8, 4, 2, &[across], &[few, vec![(3, 3)]]),
-        laid_out(8, 3, 2, &[], &[high]),
-    ]
-}
-
-/// Every batch of one record and of two over small alphabets, and what is left of it when its last
-/// words are missing.
+/// Every batch of one record and of two over small alphabets, two in both orders of arrival, and what
+/// is left of it when its last words are missing.
 #[test]
 fn forecast_with_every_small_batch() {
     let mut forecasts = Forecasts::new();
-    let mut records: Vec<[u32; 4]> = Vec::new();
-    for kind in [0, 1, 2, 3, 4, TOP] {
-        for term in [0, 1, 2, TOP] {
-            for from in [0, 1, 2, TOP] {
-                for to in [0, 1, 2, TOP] {
-                    records.push([kind, term, from, to]);
+    let records = batches::every_small_record();
+    let cards = cards::small();
+    for card in &cards {
+        for record in &records {
+            for arrival in [1, 0, TOP] {
+                let batch = batches::with_arrivals(record, &[arrival]);
+                for length in 0..=batch.len() {
+                    if arrival == 1 || length == batch.len() {
+                        forecast_or_run(&mut forecasts, card, &batch[..length], &String::new);
+                    }
                 }
             }
         }
     }
-    let cards = small_cards();
-    for card in &cards {
-        for record in &records {
-            for length in 0..=4 {
-                let batch = &record[..length];
-                forecast_or_run(&mut forecasts, card, batch, &String::new);
-            }
-        }
-    }
-    let good = |record: &&[u32; 4]| second::judge_batch(&record[..]) == 0;
-    let good_records: Vec<&[u32; 4]> = records.iter().filter(good).collect();
+    let good_records = batches::every_good_small_record();
     let mut random = Random::new(63);
     for one in &records {
         for _ in 0..24 {
             let other = random.pick(&records);
-            let batch = if random.chance(1, 2) {
+            let plain = if random.chance(1, 2) {
                 [*one, other].concat()
             } else {
                 [other, *one].concat()
             };
+            let arrivals = [
+                random.pick(&[0, 1, 2, 2, TOP]),
+                random.pick(&[1, 1, 2, TOP]),
+            ];
+            let batch = batches::with_arrivals(&plain, &arrivals);
             let card = &cards[random.below(cards.len())];
             forecast_or_run(&mut forecasts, card, &batch, &String::new);
         }
     }
     for one in &good_records {
         for other in &good_records {
-            let batch = [one.as_slice(), other.as_slice()].concat();
-            for card in &cards {
-                forecast_or_run(&mut forecasts, card, &batch, &String::new);
+            let plain = [one.as_slice(), other.as_slice()].concat();
+            for arrivals in [[1, 2], [2, 1], [2, 2]] {
+                let batch = batches::with_arrivals(&plain, &arrivals);
+                for card in &cards {
+                    forecast_or_run(&mut forecasts, card, &batch, &String::new);
+                }
             }
         }
     }
     forecasts.report("forecast_with_every_small_batch");
-    forecasts.expect(&[0, 6], 5_000);
+    forecasts.expect(&[0, 6, 14], 5_000);
     forecasts.expect(&[7], 1_000);
     assert!(forecasts.stopping > 200 && forecasts.nothing_remains > 2_000);
 }
 
-/// Cards that the judge gives each number, some wrong in other ways as well, and sound ones: fresh,
-/// with 8 at once, with 8 to come, in mid-pass. The judge's number stands beside each.
-fn cards_of_every_number() -> Vec<(u32, Vec<u32>)> {
-    let old: Vec<Vec<Pair>> = (5..8)
-        .map(|term| (1..=6).map(|position| (term * 3, position * 5)).collect())
-        .collect();
-    let new: Vec<Vec<Pair>> = vec![(1..=6).map(|position| (3, position)).collect()];
-    let sound = laid_out(8, 5, 3, &old, &new);
-    let with = |changes: &[(usize, u32)]| {
-        let mut card = sound.clone();
-        for &(word, value) in changes {
-            card[word] = value;
-        }
-        card
-    };
-    let map = |place: usize| 8 + 2 * place;
-    let block = |place: usize| 18 + 8 * place;
-    vec![
-        (0, sound.clone()),
-        (0, laid_out(8, 5, 3, &old, &[])),
-        (0, laid_out(8, 4, 0, &old, &[])),
-        (0, laid_out(8, 2, 1, &[], &[])),
-        (1, vec![]),
-        (1, sound[..7].to_vec()),
-        (1, vec![0; 7]),
-        (1, sound[..57].to_vec()),
-        (1, [&sound[..], &[0]].concat()),
-        (1, with(&[(1, 9), (3, 9), (4, 9)])),
-        (2, with(&[(0, 0)])),
-        (2, with(&[(0, 2), (1, 7)])),
-        (2, vec![0; 8]),
-        (2, with(&[(0, TOP), (map(3), 9)])[..40].to_vec()),
-        (3, with(&[(1, 7)])),
-        (3, with(&[(2, 1025), (block(3), 0)])),
-        (3, with(&[(1, 0)])[..20].to_vec()),
-        (3, with(&[(3, 5)])),
-        (3, with(&[(4, 4)])),
-        (3, with(&[(5, 2)])),
-        (3, with(&[(6, 0)])),
-        (3, with(&[(7, 0), (map(3), 9)])),
-        (3, with(&[(5, 0)])),
-        (4, with(&[(map(3), 9)])),
-        (4, with(&[(map(1) + 1, 9)])),
-        (4, with(&[(block(3), 0)])),
-        (4, with(&[(block(4) + 1, 9)])),
-        (4, with(&[(block(0) + 7, 1)])),
-        (4, with(&[(6, 4)])),
-        (4, with(&[(7, 5)])),
-    ]
-}
-
-/// Every ground of 6 and 7, alone and together, on cards of every number: the card's number first,
-/// then 6, then 7, and where none holds the forecast, which is never 8.
+/// Every ground of 6, 14 and 7, alone and together, on cards of every number: the card's number first,
+/// then 6, then 14, then 7, and where none holds the forecast, which is never 8.
 #[test]
 fn forecast_refusals_in_their_order() {
     let mut random = Random::new(64);
     let mut forecasts = Forecasts::new();
-    let mut wrong: Vec<(u32, Vec<u32>)> = vec![
+    // Without arrival numbers.
+    let wrong: Vec<(u32, Vec<u32>)> = vec![
         (0, vec![]),
         (0, vec![1, 5, 2, 2]),
         (0, vec![1, 9, 15, 15, 2, 15, 5, TOP]),
         (0, vec![3, 0, 5, 4, 1, 1, 1, 1]),
         (0, (1..=40).flat_map(|i| [1, i, 1, 1]).collect()),
         (0, (1..=40).flat_map(|i| [1, i * 50, 1, 1]).collect()),
-        (0, addition(4, 4).words().repeat(MOST_RECORDS)),
-        (6, addition(4, 4).words().repeat(MOST_RECORDS + 1)),
+        (0, [1, 4, 4, 4].repeat(MOST_RECORDS)),
+        (6, [1, 4, 4, 4].repeat(MOST_RECORDS + 1)),
         (6, [5, 4, 4, 4].repeat(MOST_RECORDS + 1)),
         (7, [1, 4, 4, 4, 1, 4, 3, 3].repeat(MOST_RECORDS / 2)),
         (6, [1, 4, 4, 4, 1, 4, 3, 3].repeat(MOST_RECORDS / 2 + 1)),
@@ -519,12 +448,34 @@ fn forecast_refusals_in_their_order() {
         (7, vec![1, 5, 2, 2, 2, 5, 1, 9]),
         (7, vec![1, 5, 2, 2, 3, 0, 1, 9]),
     ];
+    let arriving = |(number, plain): (u32, Vec<u32>)| (number, batches::numbered(&plain));
+    let mut wrong: Vec<(u32, Vec<u32>)> = wrong.into_iter().map(arriving).collect();
+    // With a wrong arrival number: 14 in place of 7 and of none.
+    for (number, batch) in wrong.clone() {
+        let count = batch.len() / RECORD_WORDS;
+        // 0 at the first and at a middle place, and the first number again at the last.
+        let first = batch.get(4).copied().unwrap_or(0);
+        for (at, arrival) in [(0, 0), (count / 2, 0), (count.max(1) - 1, first)] {
+            let mut changed = batch.clone();
+            if let Some(word) = changed.get_mut(RECORD_WORDS * at + 4) {
+                *word = arrival;
+            }
+            if changed != batch {
+                wrong.push((if number == 6 { 6 } else { 14 }, changed));
+            }
+        }
+        // The last arrival number is missing.
+        if number == 0 && count > 0 {
+            wrong.push((6, batch[..batch.len() - 1].to_vec()));
+        }
+    }
     for (batch, number) in WRONG_ANNULMENTS.iter().chain(&WRONG_EMPTY_RANGES) {
         let around = batches::around(&mut random, batch, false);
         wrong.extend(around.into_iter().map(|batch| (*number, batch)));
     }
-    wrong.extend(EMPTY_RANGES_IN_ORDER.iter().map(|good| (0, good.to_vec())));
-    for (card_number, card) in cards_of_every_number() {
+    let good = EMPTY_RANGES_IN_ORDER.iter();
+    wrong.extend(good.map(|good| (0, batches::numbered(good))));
+    for (card_number, card) in cards::of_every_number() {
         for (batch_number, batch) in &wrong {
             let about = || format!("the card {card_number}, the batch {batch_number}");
             let given = forecast_or_run(&mut forecasts, &card, batch, &about);
@@ -555,17 +506,17 @@ fn forecast_refusals_in_their_order() {
     forecasts.report("forecast_refusals_in_their_order");
     forecasts.expect(&[1, 2, 3, 4], 1_000);
     forecasts.expect(&[6], 500);
-    forecasts.expect(&[7, 0], 100);
+    forecasts.expect(&[7, 0, 14], 100);
     assert!(forecasts.of(8) == 0 && forecasts.stopping > 20);
 }
 
-/// Every ground of 6 and 7 at every record of batches of all lengths, alone and with another fault,
+/// Every ground of 6, 14 and 7 at every record of batches of all lengths, alone and with another fault,
 /// on cards where the pass would be stopped as well.
 #[test]
 fn forecast_with_bad_batches() {
     let mut random = Random::new(65);
     let mut forecasts = Forecasts::new();
-    let full = &cards_of_every_number()[0].1;
+    let full = &cards::of_every_number()[0].1;
     for round in 0..150 {
         let card = match round % 3 {
             0 => full.clone(),
@@ -573,36 +524,15 @@ fn forecast_with_bad_batches() {
         };
         let universe = Universe::random(&mut random);
         let count = [1, 2, 3, 5, 9, 17, 40][round as usize % 7];
-        let batch = exactly(&mut random, &universe, count);
+        let batch = batches::exactly(&mut random, &universe, count);
         for at in 0..count {
-            let word = 4 * at;
-            let (from, to) = (batch[word + 2], batch[word + 3]);
-            let mut faults: Vec<(usize, u32)> = vec![
-                (0, 0),
-                (0, 1),
-                (0, 2),
-                (0, 3),
-                (0, 4),
-                (0, 1 << 16 | 1),
-                (0, TOP),
-                (1, 0),
-                (1, 5),
-                (2, 0),
-                (3, 0),
-                (2, to.wrapping_add(1)),
-                (3, from.wrapping_sub(1)),
-                (1, 1),
-                (1, TOP),
-                (2, 1),
-                (2, TOP),
-                (3, TOP),
-            ];
-            faults.push((random.below(4), random.word()));
+            let word = RECORD_WORDS * at;
+            let faults = batches::faults(&mut random, &batch, at);
             for (field, value) in faults {
                 let mut bad = batch.clone();
                 bad[word + field] = value;
                 if random.chance(1, 4) {
-                    // Another fault anywhere, so that 6 and 7 meet in either order.
+                    // Another fault anywhere, so that 6, 14 and 7 meet in any order.
                     let other = random.below(bad.len());
                     bad[other] = random.pick(&[0, 1, 2, 3, TOP]);
                 }
@@ -617,32 +547,8 @@ fn forecast_with_bad_batches() {
     }
     forecasts.report("forecast_with_bad_batches");
     forecasts.expect(&[6], 10_000);
-    forecasts.expect(&[7, 0], 1_000);
+    forecasts.expect(&[7, 0, 14], 1_000);
     assert!(forecasts.stopping > 200);
-}
-
-/// A good batch of exactly `count` records, with a few positions removed under every term.
-fn exactly(random: &mut Random, universe: &Universe, count: usize) -> Vec<u32> {
-    let annulments = random.below(2) * (count / 3).min(3);
-    let mut records = Vec::new();
-    for at in 0..count {
-        if at < annulments {
-            let position = universe.position(random);
-            let (from, to) = batches::or_empty(random, (position, position));
-            records.push(annulment(from, to));
-            continue;
-        }
-        let term = universe.term(random);
-        if random.chance(2, 3) {
-            records.push(addition(term, universe.position(random)));
-        } else {
-            let (from, to) = universe.removed_range(random);
-            records.push(removal(term, from, to));
-        }
-    }
-    let batch = batches::words(records);
-    assert_eq!(second::judge_batch(&batch), 0);
-    batch
 }
 
 /// Batches of none, of 4,095 to 4,098 records and of lengths around them; the last record counts.
@@ -650,66 +556,62 @@ fn exactly(random: &mut Random, universe: &Universe, count: usize) -> Vec<u32> {
 fn forecast_with_the_longest_batches() {
     let mut random = Random::new(66);
     let mut forecasts = Forecasts::new();
-    let universe = Universe::wide(4000);
     for (b, n) in [(8, 5), (64, 100), (1024, 3)] {
         let card = match b {
-            8 => cards_of_every_number()[0].1.clone(),
+            8 => cards::of_every_number()[0].1.clone(),
             _ => cards::stepped(&mut random, b, n),
         };
-        let most = exactly(&mut random, &universe, 4096);
-        let same = addition(7, 7).words().repeat(4096);
-        let removing = removal(7, 7, TOP).words().repeat(4095);
-        let rising: Vec<u32> = (1..=4096).flat_map(|i| [1, 5, i * 9, i * 9]).collect();
-        let terms: Vec<u32> = (1..=4096).flat_map(|i| [1, i * 9, 5, 5]).collect();
-        let step = u32::MAX / 4096;
-        let annulling: Vec<u32> = (0..4096)
-            .flat_map(|i| [3, 0, i * step + 1, i * step + 9])
-            .collect();
-        for batch in [&most, &same, &removing, &rising, &terms, &annulling] {
+        for batch in &batches::longest(&mut random) {
             let mut forecast = |batch: &[u32]| {
                 let about = || format!("B {b}, N {n}, {} words", batch.len());
                 compare::forecast(&mut forecasts, &card, batch, &about)
             };
             forecast(batch);
-            let mut more = batch.clone();
-            more.extend_from_slice(&[1, TOP, TOP, TOP]);
+            let more = batches::with_a_last_record(batch);
             forecast(&more);
-            more.extend_from_slice(&[1, TOP, TOP, TOP]);
+            let more = batches::with_a_last_record(&more);
             forecast(&more);
-            for length in (16_370..=more.len()).rev().step_by(3) {
+            for length in (20_462..=more.len()).rev().step_by(3) {
                 forecast(&more[..length]);
             }
             // A fault in the last record alone, in the first alone, and a fall at the end.
-            for (word, value) in [(1, 0), (2, 0), (4, 3), (4, 0), (3, TOP)] {
+            for (field, value) in batches::LONGEST_FAULTS {
                 let mut bad = batch.clone();
-                let at = bad.len() - word;
-                bad[at] = value;
+                let last = bad.len() - RECORD_WORDS;
+                bad[last + field] = value;
                 forecast(&bad);
                 let mut bad = batch.clone();
-                bad[4 - word] = value;
+                bad[field] = value;
                 forecast(&bad);
             }
+            // The first arrival number again.
+            let mut bad = batch.clone();
+            let last = bad.len() - 1;
+            bad[last] = batch[4];
+            forecast(&bad);
         }
         // The last of many records is the one that matters.
         let full: Vec<Pair> = (1..=b - 2).map(|i| (7, i)).collect();
-        let full = laid_out(b, n, n - 1, &[full], &[]);
-        let mut expect = |last: [u32; 4], expected: ForecastAnswer| {
-            let mut batch = removal(7, TOP, TOP - 1).words().repeat(4095);
-            batch.extend_from_slice(&last);
+        let full = cards::of_blocks(b, n, n - 1, &[full], &[]);
+        let mut expect = |last: Record, expected: ForecastAnswer| {
+            let mut records = vec![removal(7, TOP, TOP - 1); 4095];
+            records.push(last);
+            let batch = batches::words(records);
             let given = compare::forecast_run(&mut forecasts, &full, &batch, &String::new);
             assert_eq!(given, expected);
         };
-        expect([1, 7, TOP, TOP], figures(2, 6, true, 0));
-        expect([2, 7, TOP, TOP], figures(1, 3, true, 0));
-        expect([1, 8, 1, 1], figures(2, 6, true, 0));
-        let mut everything = annulment(TOP, TOP).words().repeat(4095);
-        everything.splice(0..4, annulment(1, TOP).words());
+        expect(addition(7, TOP), figures(2, 6, true, 0));
+        expect(removal(7, TOP, TOP), figures(1, 3, true, 0));
+        expect(addition(8, 1), figures(2, 6, true, 0));
+        let mut everything = vec![annulment(TOP, TOP); 4095];
+        everything[0] = annulment(1, TOP);
+        let everything = batches::words(everything);
         let given = compare::forecast_run(&mut forecasts, &full, &everything, &String::new);
         assert_eq!(given, figures(0, 1, true, 0));
     }
     forecasts.report("forecast_with_the_longest_batches");
     forecasts.expect(&[0, 6], 50);
-    forecasts.expect(&[7], 10);
+    forecasts.expect(&[7, 14], 10);
 }
 
 /// Cards of all shapes with batches of all kinds, some in mid-pass: the whole run of each.
@@ -730,7 +632,7 @@ fn forecast_against_whole_runs() {
         let about = || format!("B {b}, N {n}");
         for _ in 0..3 {
             let most = random.pick(&[1, 3, 10, 60]);
-            let batch = any_batch(&mut random, &card, &universe, most);
+            let batch = batches::any(&mut random, &card, &universe, most);
             compare::forecast_run(&mut forecasts, &card, &batch, &about);
         }
         let empty = compare::forecast_run(&mut forecasts, &card, &[], &about);
@@ -748,27 +650,8 @@ fn forecast_against_whole_runs() {
 fn forecast_on_every_small_index() {
     let mut random = Random::new(68);
     let mut forecasts = Forecasts::new();
-    let positions = [1, 2, TOP];
-    let mut pairs: Vec<Pair> = Vec::new();
-    let mut records = Vec::new();
-    for term in [1, 2, TOP] {
-        for &from in &positions {
-            pairs.push((term, from));
-            records.push(addition(term, from).words());
-            for &to in &positions {
-                records.push(removal(term, from, to).words());
-            }
-        }
-    }
-    for &from in &positions {
-        records.extend(positions.iter().map(|&to| annulment(from, to).words()));
-    }
-    for chosen in 0..1usize << pairs.len() {
-        let set = pairs.iter().enumerate();
-        let set = set
-            .filter(|(i, _)| chosen >> i & 1 == 1)
-            .map(|(_, &pair)| pair);
-        let old = cards::packed(set, 8);
+    let records = batches::every_record_of_a_small_index();
+    for old in cards::every_small_index() {
         for free in 1..=2 {
             let n = (old.len() as u32 + free).max(2);
             let start = random.below(n as usize) as u32;
@@ -916,12 +799,12 @@ fn forecast_in_mid_pass() {
         let mut card = cards::any(&mut random, b, n);
         let universe = Universe::random(&mut random);
         let most = random.pick(&[3, 10, 24]);
-        let batch = any_batch(&mut random, &card, &universe, most);
+        let batch = batches::any(&mut random, &card, &universe, most);
         for _ in 0..12 {
             let same = compare::forecast_run(&mut forecasts, &card, &batch, &about);
             let empty = compare::forecast_run(&mut forecasts, &card, &[], &about);
             assert!(empty.finishes, "{}", about());
-            let other = any_batch(&mut random, &card, &universe, 8);
+            let other = batches::any(&mut random, &card, &universe, 8);
             let other = compare::forecast_run(&mut forecasts, &card, &other, &about);
             changed_outcome += u32::from(same.finishes != other.finishes);
             if random.chance(1, 4) {
@@ -991,7 +874,7 @@ fn forecast_over_leftovers() {
         let n = random.within(2, 8);
         let mut card = cards::any(&mut random, b, n);
         let universe = Universe::random(&mut random);
-        let batch = any_batch(&mut random, &card, &universe, 20);
+        let batch = batches::any(&mut random, &card, &universe, 20);
         let first = compare::forecast(&mut forecasts, &card, &batch, &String::new);
         let configuration = Configuration::read(&card);
         for kind in 0..4 {
@@ -1037,7 +920,7 @@ fn forecast_with_stretches_of_every_shape() {
     let mut random = Random::new(73);
     let mut forecasts = Forecasts::new();
     let mut added_inside = 0;
-    for round in 0..1400 {
+    for round in 0..1900 {
         let b = random.pick(&[8, 8, 9, 11, 16]);
         let n = random.within(2, 8);
         let card = match round % 2 {
@@ -1071,7 +954,7 @@ fn forecast_with_stretches_of_every_shape() {
                     _ => addition(term, position),
                 });
             }
-            let batch = batches::words(records);
+            let batch = batches::drawn_words(&mut random, records);
             let about = || format!("{shape:?}");
             let given = compare::forecast_run(&mut forecasts, &card, &batch, &about);
             let without = batches::without_empty_ranges(&batch);
@@ -1089,7 +972,7 @@ fn forecast_with_stretches_of_every_shape() {
 }
 
 /// Records that do nothing: repeats, additions of what is there, removals of what is not or of what
-/// the batch adds, anything up to the boundary, ranges with no position. The forecast stays.
+/// the batch adds later, anything up to the boundary, ranges with no position. The forecast stays.
 #[test]
 fn forecast_with_records_that_do_nothing() {
     let mut random = Random::new(80);
@@ -1100,30 +983,65 @@ fn forecast_with_records_that_do_nothing() {
         let n = random.within(2, 8);
         let card = cards::any(&mut random, b, n);
         let universe = Universe::random(&mut random);
-        let batch = any_batch(&mut random, &card, &universe, 12);
+        let batch = batches::any(&mut random, &card, &universe, 12);
         let first = compare::forecast(&mut forecasts, &card, &batch, &String::new);
         let boundary = Configuration::read(&card).boundary();
         let live = second::live_pairs(&card);
         let remains: Vec<Pair> = second::what_remains(&card, &batch).into_iter().collect();
         let known = questions::known_pairs(&card);
-        let records = batch::records(&batch);
+        // Even arrival numbers, so that others may arrive between them.
+        let mut records = batch::records(&batch);
+        let arrivals: BTreeSet<u32> = records.iter().map(|record| record.arrival).collect();
+        for record in &mut records {
+            record.arrival = 2 * arrivals.range(..=record.arrival).count() as u32;
+        }
+        let last = 2 * records.len() as u32;
+        let any = |record: Record, random: &mut Random| Record {
+            arrival: random.within(1, last + 1),
+            ..record
+        };
         for kind in 0..6 {
             let mut more = records.clone();
             match kind {
-                0 => more.extend_from_slice(&records),
+                // Each record again, before the first of them or just behind itself.
+                0 => {
+                    let early = random.chance(1, 2);
+                    more.extend(records.iter().map(|record| match early {
+                        true => Record {
+                            arrival: 1,
+                            ..*record
+                        },
+                        false => Record {
+                            arrival: record.arrival + 1,
+                            ..*record
+                        },
+                    }));
+                }
                 1 => {
-                    for &(term, position) in remains.iter().filter(|_| random.chance(1, 3)) {
-                        more.push(addition(term, position));
+                    for &(term, position) in &remains {
+                        if random.chance(1, 3) {
+                            more.push(any(addition(term, position), &mut random));
+                        }
                     }
                 }
+                // Just before the addition.
                 2 => {
                     let added = records.iter().filter(|record| record.kind == ADD);
-                    more.extend(added.map(|record| removal(record.term, record.from, record.to)));
+                    more.extend(added.map(|record| Record {
+                        arrival: record.arrival - 1,
+                        ..removal(record.term, record.from, record.to)
+                    }));
                 }
                 3 => {
+                    // Not in the index, and not in what remains either.
                     let (term, position) = random.pick(&known);
                     for position in [position.saturating_add(1), position.saturating_sub(1)] {
-                        if position != 0 && !live.contains(&(term, position)) {
+                        let pair = (term, position);
+                        let absent = !live.contains(&pair) && !remains.contains(&pair);
+                        if position != 0 && absent {
+                            more.push(any(removal(term, position, position), &mut random));
+                        } else if position != 0 && !live.contains(&pair) {
+                            // The batch adds it later.
                             more.push(removal(term, position, position));
                         }
                     }
@@ -1132,25 +1050,31 @@ fn forecast_with_records_that_do_nothing() {
                     let (term, position) = random.pick(&known);
                     if Some((term, position)) <= boundary {
                         up_to_the_boundary += 1;
-                        more.push(addition(term, position));
-                        more.push(removal(term, 1, position));
-                        more.push(addition(term, random.within(1, position)));
+                        let within = random.within(1, position);
+                        for record in [
+                            addition(term, position),
+                            removal(term, 1, position),
+                            addition(term, within),
+                        ] {
+                            more.push(any(record, &mut random));
+                        }
                     }
                 }
                 _ => {
                     for (from, to) in EMPTY_RANGES {
-                        more.push(annulment(from, to));
-                        more.push(removal(random.pick(&known).0, from, to));
+                        more.push(any(annulment(from, to), &mut random));
+                        let term = random.pick(&known).0;
+                        more.push(any(removal(term, from, to), &mut random));
                     }
                 }
             }
-            let more = batches::words(more);
+            let more = batches::by_arrival(&mut random, more);
             let about = || format!("kind {kind}");
             let given = compare::forecast(&mut forecasts, &card, &more, &about);
             assert_eq!(given, first, "{}; {batch:?}, then {more:?}", about());
         }
         // All that the universe has goes, or all above the boundary.
-        let everything = [3, 0, 1, TOP];
+        let everything = [3, 0, 1, TOP, 1];
         let given = compare::forecast_run(&mut forecasts, &card, &everything, &String::new);
         assert_eq!(given, figures(0, 1, true, 0));
         let card = cards::fresh(&mut random, b, n);
@@ -1168,40 +1092,14 @@ fn forecast_with_records_that_do_nothing() {
 fn forecast_at_the_highest_terms_and_positions() {
     let mut random = Random::new(74);
     let mut forecasts = Forecasts::new();
-    let universes = [
-        Universe {
-            terms: vec![TOP],
-            positions: (TOP - 20..=TOP).collect(),
-        },
-        Universe {
-            terms: (TOP - 5..=TOP).collect(),
-            positions: vec![TOP - 1, TOP],
-        },
-        Universe {
-            terms: (TOP - 9..=TOP).collect(),
-            positions: vec![TOP],
-        },
-        Universe {
-            terms: vec![1, 2, TOP - 1, TOP],
-            positions: vec![1, 2, 1 << 31, TOP - 2, TOP - 1, TOP],
-        },
-    ];
+    let universes = Universe::at_the_top();
     for round in 0..1600 {
         let b = random.pick(&[8, 8, 9, 10, 13]);
         let n = random.within(2, 6);
         let universe = &universes[round % universes.len()];
         let mut card = cards::fresh(&mut random, b, n);
         if round % 4 == 0 {
-            // The boundary is the highest pair, or the last position of a term.
-            let last = random.pick(&[HIGHEST, (TOP, TOP - 1), (7, TOP), (TOP - 1, TOP)]);
-            let old: Vec<Vec<Pair>> = match last {
-                (TOP, TOP) => vec![],
-                (TOP, _) => vec![vec![HIGHEST]],
-                (term, _) => vec![vec![(term, 9), (term, TOP), (term + 1, 1)]],
-            };
-            let memory = cards::memory(&mut random, b, n.max(3));
-            card = cards::laid_out(memory, b, n.max(3), 1, &old, &[vec![(5, 5), last]]);
-            assert_eq!(second::judge(&card), 0);
+            card = cards::bounded_at_the_top(&mut random, b, n);
         }
         for _ in 0..3 {
             let mixture = Mixture::random(&mut random);
@@ -1268,9 +1166,9 @@ fn forecast_on_unsound_cards() {
     for _ in 0..20_000 {
         let card = cards::random_words(&mut random);
         let batch = match random.below(3) {
-            0 => vec![1, 5, 2, 2],
-            1 => vec![1, 5, 2, 2, 1, 4, 2, 2],
-            _ => random.words(4),
+            0 => vec![1, 5, 2, 2, 1],
+            1 => vec![1, 5, 2, 2, 1, 1, 4, 2, 2, 2],
+            _ => random.words(RECORD_WORDS),
         };
         forecast_or_run(&mut forecasts, &card, &batch, &String::new);
     }
@@ -1300,7 +1198,7 @@ fn forecast_of_terms_over_many_blocks() {
             for live in new_length.max(1)..n as usize {
                 let (new, old) = cards::blocks_of_one_term(7, b, new_length, live);
                 let start = random.below(n as usize) as u32;
-                let card = laid_out(b, n, start, &old, &new);
+                let card = cards::of_blocks(b, n, start, &old, &new);
                 for _ in 0..6 {
                     let mixture = Mixture::random(&mut random);
                     let batch = batches::near(&mut random, &card, mixture, 8);
@@ -1320,42 +1218,14 @@ fn forecast_of_terms_over_many_blocks() {
 fn forecast_on_cards_of_many_shapes() {
     let mut random = Random::new(77);
     let mut forecasts = Forecasts::new();
-    for (b, n) in [
-        (8, 2),
-        (8, 3),
-        (9, 2),
-        (10, 3),
-        (8, 100),
-        (8, 1024),
-        (9, 1023),
-        (1024, 2),
-        (1024, 3),
-        (1023, 4),
-        (1024, 9),
-        (64, 64),
-        (257, 20),
-        (16, 300),
-        (500, 12),
-    ] {
+    for (b, n) in cards::MANY_SHAPES {
         let room = b as usize * n as usize;
         let universe = Universe::wide(room.max(100));
-        let mut card = cards::fresh(&mut random, b, n);
-        if room > 2_000 {
-            // Well filled already, from any place on.
-            let live = match random.below(3) {
-                0 => n as usize - 1,
-                _ => n as usize - 1 - random.below(n as usize / 2),
-            };
-            let mut cursor = (0, 0);
-            let old = cards::segment(&mut random, b, live, &mut cursor, false);
-            let start = n - 1 - random.below(n as usize / 2) as u32;
-            card = cards::laid_out(card, b, n, start, &old, &[]);
-            assert_eq!(second::judge(&card), 0);
-        }
+        let mut card = cards::well_filled(&mut random, b, n);
         let about = || format!("B {b}, N {n}");
         for _ in 0..5 {
             let most = (room / 3).clamp(6, 2_000);
-            let batch = any_batch(&mut random, &card, &universe, most);
+            let batch = batches::any(&mut random, &card, &universe, most);
             if room > 2_000 {
                 let mut now = compare::forecast(&mut forecasts, &card, &batch, &about);
                 for _ in 0..8 {
@@ -1391,7 +1261,7 @@ fn forecast_of_long_runs() {
         for part in [3, 8, 8] {
             let count = (b * n / part) as usize;
             let batch = if part == 3 {
-                exactly(&mut random, &universe, count)
+                batches::exactly(&mut random, &universe, count)
             } else {
                 batches::near(&mut random, &card, Mixture::Both, count)
             };
@@ -1434,7 +1304,7 @@ fn forecast_of_long_runs() {
         .map(|i| vec![(i * 4, 9), (i * 4 + 2, 9)])
         .collect();
     for (n, start) in [(701, 350), (702, 701), (703, 0)] {
-        let card = laid_out(8, n, start, &old, &[]);
+        let card = cards::of_blocks(8, n, start, &old, &[]);
         // A term between two of the first block, of the 300th, of the last: from there on each due
         // block ends in the middle of an old one, and one place more is taken.
         for (block, writes) in [(1, 0), (300, 299), (699, 698)] {
@@ -1457,26 +1327,20 @@ fn forecast_on_the_largest_card() {
     let mut random = Random::new(79);
     let mut forecasts = Forecasts::new();
     let (b, n) = (1024, 1024);
-    let block = |number: u32| -> Vec<Pair> {
-        // 341 entries of one position each, or fewer entries of several.
-        let several = 1 + number % 4;
-        let entries = 1024 / (2 + several);
-        (0..entries * several)
-            .map(|i| (number * 400 + i / several, TOP - 9 + i % several))
-            .collect()
-    };
     for (old_start, new_count, old_count) in [(900, 0, 1023), (1023, 1014, 7)] {
-        let new: Vec<Vec<Pair>> = (1..=new_count).map(block).collect();
-        let old: Vec<Vec<Pair>> = (new_count + 1..=new_count + old_count).map(block).collect();
+        let new: Vec<Vec<Pair>> = (1..=new_count).map(cards::large_block).collect();
+        let old: Vec<Vec<Pair>> = (new_count + 1..=new_count + old_count)
+            .map(cards::large_block)
+            .collect();
         let memory = random.words(cards::right_length(b, n));
         let card = cards::laid_out(memory, b, n, old_start, &old, &new);
         let about = || format!("{old_count} old blocks");
         if new_count == 0 {
             // A pair before the first block leaves no old block to be freed.
-            let batch = [1, 1, 1, 1];
+            let batch = [1, 1, 1, 1, 1];
             let given = compare::forecast(&mut forecasts, &card, &batch, &about);
             assert!(!given.finishes && given.writes == 0 && given.blocks > 1_000);
-            let given = compare::forecast(&mut forecasts, &card, &[3, 0, 1, TOP], &about);
+            let given = compare::forecast(&mut forecasts, &card, &[3, 0, 1, TOP, 1], &about);
             assert_eq!(given, figures(0, 1, true, 0));
         } else {
             // All of the old segment goes, and one pair comes.
@@ -1494,7 +1358,7 @@ fn forecast_on_the_largest_card() {
             let batch = batches::words(records);
             let given = compare::forecast(&mut forecasts, &card, &batch, &about);
             assert_eq!(given, figures(9, 27, true, 0));
-            let more = [&batch[..], &addition(TOP, 1).words()].concat();
+            let more = batches::with_a_last_record(&batch);
             let given = compare::forecast(&mut forecasts, &card, &more, &about);
             assert_eq!(given, figures(10, 30, false, 9));
             compare::forecast(&mut forecasts, &card, &batch[..7], &about);

@@ -19,7 +19,7 @@ fn lookup_on_the_papers_cases() {
     for leftovers in [0, 5, TOP] {
         let mut card = vec![leftovers; 48];
         assert_eq!(ffi::format(&mut card, 8, 4), 0);
-        let batch = [1, 5, 2, 2, 1, 5, 9, 9, 1, 7, 4, 4];
+        let batch = [1, 5, 2, 2, 1, 1, 5, 9, 9, 2, 1, 7, 4, 4, 3];
         let mut ask = |card: &[u32], question: Question, room, reply, positions: &[u32]| {
             let (term, from, to) = question;
             let mut answer = vec![77; room];

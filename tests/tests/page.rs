@@ -56,7 +56,7 @@ fn printed(tally: &mut Tally, card: &[u32], question: Question, lines: &[&str]) 
 fn p1(leftovers: u32) -> Vec<u32> {
     let mut card = vec![leftovers; 48];
     assert_eq!(ffi::format(&mut card, 8, 4), 0);
-    let batch = [1, 5, 2, 2, 1, 5, 9, 9, 1, 7, 4, 4];
+    let batch = [1, 5, 2, 2, 1, 1, 5, 9, 9, 2, 1, 7, 4, 4, 3];
     while !ffi::step(&mut card, &batch).finished {}
     card
 }

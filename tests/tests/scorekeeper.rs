@@ -182,6 +182,13 @@ fn scorekeeper_outputs_written_out() {
         ("A\t8\t1\nA\t7\t4\nA\t5\t9\nA\t5\t2", "D\t6\n"),
         ("A\t4294967295\t4294967295\n", "D\t3\n"),
         ("R\t1\t1\t4294967295\nA\t1\t1\n", "D\t3\n"),
+        // Of an addition and a removal of a pair the later line decides.
+        ("A\t1\t1\nR\t1\t1\t4294967295\n", "D\t1\n"),
+        ("A\t5\t2\nR\t5\t1\t9\n", "D\t1\n"),
+        ("R\t5\t1\t9\nA\t5\t2", "D\t3\n"),
+        ("A\t5\t2\nR\t5\t1\t9\nA\t5\t2\n", "D\t3\n"),
+        ("R\t5\t1\t9\nA\t5\t2\nR\t5\t2\t2", "D\t1\n"),
+        ("A\t5\t2\nA\t5\t9\nR\t5\t3\t9\n", "D\t3\n"),
         ("A\t0\t2\n", "N\t6\n"),
         ("A\t5\t0\n", "N\t6\n"),
         // A range with no game in it removes nothing; a zero in it is refused as before.
@@ -247,7 +254,7 @@ fn scorekeeper_outputs_written_out() {
     let output = child.wait_with_output().expect("the program ends");
     check(&output, "D\t3\n", &|| "from the second line".to_string());
     runs.report();
-    runs.tally.expect(&[0], 34);
+    runs.tally.expect(&[0], 40);
     runs.tally.expect(&[12], 14);
     runs.tally.expect(&[6], 13);
     runs.tally.expect(&[8], 4);
@@ -312,7 +319,7 @@ fn scorekeeper_at_the_most_lines() {
 fn scorekeeper_runs_passes() {
     let mut random = Random::new(123);
     let mut runs = Runs::new("scorekeeper_runs_passes");
-    for round in 0..1_000 {
+    for round in 0..1_500 {
         let universe = Universe::random(&mut random);
         let lines = if round % 4 == 0 {
             let size = random.below(8);
@@ -324,14 +331,20 @@ fn scorekeeper_runs_passes() {
         };
         runs.compare(&files::file(&lines, random.chance(1, 2)));
     }
-    // Many lines that say few things.
-    for _ in 0..40 {
+    // Many lines that say few things, some of them that add alone.
+    for round in 0..60 {
+        let removing = if round < 40 { 0 } else { 1 + round % 3 };
         let terms = 1 + random.below(4) as u32;
         let most = 1 + random.below(12) as u32;
         let lines: Vec<Vec<u8>> = (0..4096 - random.below(100))
             .map(|_| {
                 let (term, position) = (random.within(1, terms), random.within(1, most));
-                format!("A\t{term}\t{position}").into_bytes()
+                if random.chance(removing, 4) {
+                    let to = random.within(position, most);
+                    format!("R\t{term}\t{position}\t{to}").into_bytes()
+                } else {
+                    format!("A\t{term}\t{position}").into_bytes()
+                }
             })
             .collect();
         runs.compare(&files::file(&lines, random.chance(1, 2)));

@@ -7,12 +7,12 @@ use gameindex_tests::compare::{self, Tally};
 use gameindex_tests::ffi;
 use gameindex_tests::files;
 use gameindex_tests::random::Random;
-use gameindex_tests::second::batch::{Record, MOST_RECORDS};
+use gameindex_tests::second::batch::{Record, MOST_RECORDS, RECORD_WORDS};
 use gameindex_tests::second::scores::{self, LONGEST_LINE, SETTLING_BYTES};
 use gameindex_tests::second::{Outcome, ScoresAnswer};
 
 const TOP: u32 = u32::MAX;
-const MOST_WORDS: usize = 4 * MOST_RECORDS;
+const MOST_WORDS: usize = RECORD_WORDS * MOST_RECORDS;
 
 /// A file with so many words lent for its batch gives this number, line and batch, and leaves all
 /// other words lent and around them.
@@ -39,14 +39,14 @@ fn read(tally: &mut Tally, bytes: &[u8], batch: &[u32]) {
     for room in 0..batch.len() {
         ask(tally, bytes, room, 10, 0, &[]);
     }
-    for more in [0, 1, 3, 4, 5, MOST_WORDS] {
+    for more in [0, 1, 3, 4, 5, 6, MOST_WORDS] {
         ask(tally, bytes, batch.len() + more, 0, 0, batch);
     }
 }
 
 /// This number comes of this line, whatever is lent.
 fn refused(tally: &mut Tally, bytes: &[u8], number: u32, line: usize) {
-    for room in [0, 1, 4, 8, 100, MOST_WORDS] {
+    for room in [0, 1, 4, 5, 8, 10, 100, MOST_WORDS] {
         ask(tally, bytes, room, number, line, &[]);
     }
 }
@@ -60,47 +60,54 @@ fn scores_written_out() {
         let read = |t: &mut Tally, text: &str, batch: &[u32]| {
             read(t, [text, end].concat().as_bytes(), batch);
         };
-        read(t, "A\t5\t2", &[1, 5, 2, 2]);
-        read(t, "R\t5\t2\t9", &[2, 5, 2, 9]);
+        read(t, "A\t5\t2", &[1, 5, 2, 2, 1]);
+        read(t, "R\t5\t2\t9", &[2, 5, 2, 9, 1]);
         // Zeros are for the judge of the batch.
-        read(t, "A\t0\t0", &[1, 0, 0, 0]);
-        read(t, "R\t0\t0\t0", &[2, 0, 0, 0]);
+        read(t, "A\t0\t0", &[1, 0, 0, 0, 1]);
+        read(t, "R\t0\t0\t0", &[2, 0, 0, 0, 1]);
         // No line says a removal under every term: this is one of term 0.
-        read(t, "R\t0\t1\t9", &[2, 0, 1, 9]);
-        read(t, "A\t5\t2\nR\t0\t1\t9", &[2, 0, 1, 9, 1, 5, 2, 2]);
-        read(t, "R\t1\t9\t2", &[2, 1, 9, 2]);
-        read(t, "R\t5\t9\t0", &[2, 5, 9, 0]);
+        read(t, "R\t0\t1\t9", &[2, 0, 1, 9, 1]);
+        read(t, "A\t5\t2\nR\t0\t1\t9", &[2, 0, 1, 9, 2, 1, 5, 2, 2, 1]);
+        read(t, "R\t1\t9\t2", &[2, 1, 9, 2, 1]);
+        read(t, "R\t5\t9\t0", &[2, 5, 9, 0, 1]);
         let top = "4294967295";
         let longest = format!("R\t{top}\t{top}\t{top}");
         assert_eq!(longest.len(), 34);
-        read(t, &longest, &[2, TOP, TOP, TOP]);
-        read(t, &format!("A\t{top}\t1"), &[1, TOP, 1, 1]);
-        // By term, then from, as numbers and not as text.
-        read(t, "A\t10\t1\nA\t9\t1", &[1, 9, 1, 1, 1, 10, 1, 1]);
-        read(t, "A\t5\t10\nA\t5\t9", &[1, 5, 9, 9, 1, 5, 10, 10]);
-        read(t, "A\t5\t9\nA\t6\t1", &[1, 5, 9, 9, 1, 6, 1, 1]);
-        read(t, "A\t6\t1\nA\t5\t9", &[1, 5, 9, 9, 1, 6, 1, 1]);
-        read(t, "A\t0\t9\nR\t0\t1\t1", &[2, 0, 1, 1, 1, 0, 9, 9]);
+        read(t, &longest, &[2, TOP, TOP, TOP, 1]);
+        read(t, &format!("A\t{top}\t1"), &[1, TOP, 1, 1, 1]);
+        // By term, then from, as numbers and not as text; the arrival number is the line's.
+        read(t, "A\t10\t1\nA\t9\t1", &[1, 9, 1, 1, 2, 1, 10, 1, 1, 1]);
+        read(t, "A\t5\t10\nA\t5\t9", &[1, 5, 9, 9, 2, 1, 5, 10, 10, 1]);
+        read(t, "A\t5\t9\nA\t6\t1", &[1, 5, 9, 9, 1, 1, 6, 1, 1, 2]);
+        read(t, "A\t6\t1\nA\t5\t9", &[1, 5, 9, 9, 2, 1, 6, 1, 1, 1]);
+        read(t, "A\t0\t9\nR\t0\t1\t1", &[2, 0, 1, 1, 2, 1, 0, 9, 9, 1]);
         // By from also where to is below it.
-        read(t, "R\t5\t9\t3\nA\t5\t4", &[1, 5, 4, 4, 2, 5, 9, 3]);
-        read(t, "A\t5\t4\nR\t5\t9\t3", &[1, 5, 4, 4, 2, 5, 9, 3]);
-        read(t, "R\t5\t9\t3\nR\t5\t8\t7", &[2, 5, 8, 7, 2, 5, 9, 3]);
-        read(t, "R\t5\t9\t3\nA\t5\t9", &[2, 5, 9, 3, 1, 5, 9, 9]);
-        read(t, "A\t5\t9\nR\t5\t9\t3", &[1, 5, 9, 9, 2, 5, 9, 3]);
-        read(t, &format!("R\t5\t{top}\t1"), &[2, 5, TOP, 1]);
+        read(t, "R\t5\t9\t3\nA\t5\t4", &[1, 5, 4, 4, 2, 2, 5, 9, 3, 1]);
+        read(t, "A\t5\t4\nR\t5\t9\t3", &[1, 5, 4, 4, 1, 2, 5, 9, 3, 2]);
+        read(t, "R\t5\t9\t3\nR\t5\t8\t7", &[2, 5, 8, 7, 2, 2, 5, 9, 3, 1]);
+        read(t, "R\t5\t9\t3\nA\t5\t9", &[2, 5, 9, 3, 1, 1, 5, 9, 9, 2]);
+        read(t, "A\t5\t9\nR\t5\t9\t3", &[1, 5, 9, 9, 1, 2, 5, 9, 3, 2]);
+        read(t, &format!("R\t5\t{top}\t1"), &[2, 5, TOP, 1, 1]);
         read(
             t,
             &format!("R\t5\t{top}\t1\nR\t5\t9\t{top}"),
-            &[2, 5, 9, TOP, 2, 5, TOP, 1],
+            &[2, 5, 9, TOP, 2, 2, 5, TOP, 1, 1],
         );
         // Equal in both: in the order of their lines, whatever kind and to are.
-        read(t, "A\t5\t2\nR\t5\t2\t9", &[1, 5, 2, 2, 2, 5, 2, 9]);
-        read(t, "R\t5\t2\t9\nA\t5\t2", &[2, 5, 2, 9, 1, 5, 2, 2]);
-        read(t, "R\t5\t2\t9\nR\t5\t2\t3", &[2, 5, 2, 9, 2, 5, 2, 3]);
+        read(t, "A\t5\t2\nR\t5\t2\t9", &[1, 5, 2, 2, 1, 2, 5, 2, 9, 2]);
+        read(t, "R\t5\t2\t9\nA\t5\t2", &[2, 5, 2, 9, 1, 1, 5, 2, 2, 2]);
+        read(t, "R\t5\t2\t9\nR\t5\t2\t3", &[2, 5, 2, 9, 1, 2, 5, 2, 3, 2]);
         read(
             t,
             "R\t7\t4\t9\nA\t5\t9\nA\t7\t4\nA\t5\t2\nA\t7\t4",
-            &[1, 5, 2, 2, 1, 5, 9, 9, 2, 7, 4, 9, 1, 7, 4, 4, 1, 7, 4, 4],
+            &[
+                [1, 5, 2, 2, 4],
+                [1, 5, 9, 9, 2],
+                [2, 7, 4, 9, 1],
+                [1, 7, 4, 4, 3],
+                [1, 7, 4, 4, 5],
+            ]
+            .concat(),
         );
     }
     refused(t, b"\n", 12, 1);
@@ -113,7 +120,7 @@ fn scores_written_out() {
     refused(t, b"A\t5\t2\nA\t5\t4294967296\nx", 12, 2);
     refused(t, b"A\t5\t2\0", 12, 1);
     let most = b"A\t5\t2\n".repeat(4096);
-    let batch = [1, 5, 2, 2].repeat(4096);
+    let batch: Vec<u32> = (1..=4096).flat_map(|line| [1, 5, 2, 2, line]).collect();
     for bytes in [&most, &most[..most.len() - 1]] {
         ask(t, bytes, MOST_WORDS, 0, 0, &batch);
         ask(t, bytes, MOST_WORDS + 5, 0, 0, &batch);
@@ -142,7 +149,7 @@ fn scores_written_out() {
 fn scores_of_every_short_input() {
     let mut tally = Tally::new();
     let alphabet = b"AR\t\n019";
-    let pattern: Vec<u32> = (0..9).map(|i| 0xC0DE_0000 + i).collect();
+    let pattern: Vec<u32> = (0..11).map(|i| 0xC0DE_0000 + i).collect();
     let mut bytes = Vec::new();
     for length in 0..=7 {
         for counted in 0..alphabet.len().pow(length) {
@@ -183,7 +190,7 @@ fn scores_of_files_of_every_size() {
             let bytes = files::file(&lines, last_feed);
             let about = || format!("{size} lines");
             let reply = compare::scores_by_room(&mut tally, &mut random, &bytes, &about);
-            assert_eq!((reply.number, reply.words), (0, 4 * size));
+            assert_eq!((reply.number, reply.words), (0, RECORD_WORDS * size));
         }
     }
     tally.report("scores_of_files_of_every_size");
@@ -197,7 +204,7 @@ fn scores_of_lines_of_another_form() {
     let mut tally = Tally::new();
     let bad = files::bad_lines();
     for line in &bad {
-        assert_eq!(scores::record(line), None, "{}", line.escape_ascii());
+        assert_eq!(scores::record(line, 1), None, "{}", line.escape_ascii());
         let about = || format!("with the line \"{}\"", line.escape_ascii());
         for size in [1, 2, 3, 9, 40] {
             let good = files::any_lines(&mut random, size);
@@ -277,11 +284,11 @@ fn scores_of_figures() {
     for (figure, value) in files::FIGURES {
         let lines = files::lines_with_figure(figure.as_bytes());
         let batches = [
-            [1, value, 2, 2],
-            [1, 5, value, value],
-            [2, value, 2, 9],
-            [2, 5, value, 9],
-            [2, 5, 2, value],
+            [1, value, 2, 2, 1],
+            [1, 5, value, value, 1],
+            [2, value, 2, 9, 1],
+            [2, 5, value, 9, 1],
+            [2, 5, 2, value, 1],
         ];
         for (line, batch) in lines.iter().zip(&batches) {
             read(&mut tally, line, batch);
@@ -400,7 +407,7 @@ fn scores_of_every_beginning() {
         let whole = files::file(&lines, random.chance(1, 2));
         for end in 0..=whole.len() {
             let about = || format!("the first {end} bytes of a file");
-            let lent = random.words(4 * size);
+            let lent = random.words(RECORD_WORDS * size);
             compare::scores(&mut tally, &whole[..end], &lent, &about);
         }
     }
@@ -602,7 +609,7 @@ fn scores_of_megabytes() {
     }
     for (bytes, number, line) in &cases {
         let about = || format!("number {number} at line {line}");
-        for lent in [0, 4, MOST_WORDS] {
+        for lent in [0, 4, 5, MOST_WORDS] {
             let reply = compare::scores(&mut tally, bytes, &random.words(lent), &about);
             assert_eq!((reply.number, reply.line), (*number, *line));
         }
@@ -722,7 +729,11 @@ fn passes_with_the_batch_of_a_file() {
         ("R\t0\t1\t4294967295\n", Outcome::Number(6)),
         ("A\t0\t5\n", Outcome::Number(6)),
         ("A\t5\t2\nR\t0\t1\t9\n", Outcome::Number(6)),
-        ("A\t5\t2\nR\t5\t1\t9\n", Outcome::Steps(3)),
+        // Added, then taken back; and the other way round.
+        ("A\t5\t2\nR\t5\t1\t9\n", Outcome::Steps(1)),
+        ("R\t5\t1\t9\nA\t5\t2\n", Outcome::Steps(3)),
+        ("A\t5\t2\nR\t5\t1\t9\nA\t5\t2\n", Outcome::Steps(3)),
+        ("R\t5\t1\t9\nA\t5\t2\nR\t5\t2\t2\n", Outcome::Steps(1)),
         // Ranges with no game in them.
         ("R\t5\t9\t3", Outcome::Steps(1)),
         ("R\t5\t4294967295\t1\n", Outcome::Steps(1)),

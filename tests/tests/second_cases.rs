@@ -32,7 +32,7 @@ fn p1_batch() -> Vec<u32> {
 fn p1(n: u32) -> Vec<u32> {
     let mut card = zeros(n);
     let batch = p1_batch();
-    assert_eq!(batch, [1, 5, 2, 2, 1, 5, 9, 9, 1, 7, 4, 4]);
+    assert_eq!(batch, [1, 5, 2, 2, 1, 1, 5, 9, 9, 2, 1, 7, 4, 4, 3]);
     assert_eq!(second::blocks_filled(&card, &batch), 1);
     assert_eq!(second::step(&mut card, &batch), done(1, 0, false));
     assert_eq!(block_at(&card, 0), [5, 2, 2, 9, 7, 1, 4, 0]);
@@ -147,21 +147,33 @@ fn p4_stops_with_8() {
     assert_eq!(live(&card), [(5, 2), (5, 9), (7, 4)]);
 }
 
+/// (5,9) stays only where the addition arrived second; a repeat of it counts by its own arrival.
 #[test]
-fn p5_an_addition_wins() {
-    for batch in [
-        vec![removal(5, 2, 9), addition(5, 9)],
-        vec![removal(5, 2, 9), addition(5, 9), addition(5, 9)],
-    ] {
+fn p5_in_both_orders_of_arrival() {
+    let cases: [(&[u32], bool); 8] = [
+        (&[2, 5, 2, 9, 1, 1, 5, 9, 9, 2], true),
+        (&[2, 5, 2, 9, 2, 1, 5, 9, 9, 1], false),
+        (&[2, 5, 2, 9, 7, 1, 5, 9, 9, u32::MAX], true),
+        (&[2, 5, 2, 9, u32::MAX, 1, 5, 9, 9, 7], false),
+        (&[2, 5, 2, 9, 1, 1, 5, 9, 9, 2, 1, 5, 9, 9, 3], true),
+        (&[2, 5, 2, 9, 2, 1, 5, 9, 9, 3, 1, 5, 9, 9, 1], true),
+        (&[2, 5, 2, 9, 2, 1, 5, 9, 9, 1, 1, 5, 9, 9, 3], true),
+        (&[2, 5, 2, 9, 3, 1, 5, 9, 9, 1, 1, 5, 9, 9, 2], false),
+    ];
+    for (batch, stays) in cases {
         let mut card = p1(4);
-        let batch = batches::words(batch);
-        assert_eq!(cards::run(&mut card, &batch, 3), 0);
+        let (pairs, block): (&[Pair], [u32; 8]) = if stays {
+            (&[(5, 9), (7, 4)], [5, 1, 9, 7, 1, 4, 0, 0])
+        } else {
+            (&[(7, 4)], [7, 1, 4, 0, 0, 0, 0, 0])
+        };
+        assert_eq!(cards::run(&mut card, batch, 3), 0);
         assert_eq!(card[..8], [1, 8, 4, 1, 1, 0, 0, 0]);
-        assert_eq!(live(&card), [(5, 9), (7, 4)]);
-        assert_eq!(block_at(&card, 1), [5, 1, 9, 7, 1, 4, 0, 0]);
+        assert_eq!(live(&card), pairs);
+        assert_eq!(block_at(&card, 1), block);
         // The whole batch once more changes nothing in the index.
-        assert_eq!(cards::run(&mut card, &batch, 3), 0);
-        assert_eq!(live(&card), [(5, 9), (7, 4)]);
+        assert_eq!(cards::run(&mut card, batch, 3), 0);
+        assert_eq!(live(&card), pairs);
     }
 }
 
@@ -213,12 +225,13 @@ fn numbers_of_the_formatter() {
 
 #[test]
 fn numbers_of_the_batch() {
-    let number = second::judge_batch;
+    let number = |plain: &[u32]| second::judge_batch(&batches::numbered(plain));
     assert_eq!(number(&[]), 0);
     assert_eq!(number(&[1, 5, 2, 2]), 0);
     assert_eq!(number(&[2, 5, 2, 9, 1, 5, 2, 2, 2, 5, 2, 3]), 0);
-    for length in [1, 2, 3, 5, 6, 7] {
-        assert_eq!(number(&[1, 1, 1, 1, 1, 1, 1, 1][..length]), 6);
+    for length in [1, 2, 3, 4, 6, 7, 8, 9] {
+        let words = [1, 1, 1, 1, 1, 1, 1, 1, 1, 2];
+        assert_eq!(second::judge_batch(&words[..length]), 6);
     }
     assert_eq!(number(&[1, 5, 2, 2].repeat(4096)), 0);
     assert_eq!(number(&[1, 5, 2, 2].repeat(4097)), 6);
@@ -241,9 +254,111 @@ fn numbers_of_the_batch() {
     assert_eq!(number(&[1, 5, 2, 2, 2, 5, 1, 9]), 7);
 }
 
+/// 14: an arrival number that is 0 or used twice, after 6 and before 7. The fifth word never makes a
+/// record ill formed.
+#[test]
+fn numbers_of_arrivals() {
+    let top = u32::MAX;
+    let number = second::judge_batch;
+    for arrival in [1, 2, 4095, 4096, 4097, 65_536, 1 << 31, top - 1, top] {
+        assert_eq!(number(&[1, 5, 2, 2, arrival]), 0);
+        assert_eq!(number(&[2, 5, 9, 2, arrival]), 0);
+        assert_eq!(number(&[3, 0, 2, 9, arrival]), 0);
+        assert_eq!(number(&[1, 5, 2, 2, arrival, 1, 5, 2, 2, arrival]), 14);
+        assert_eq!(number(&[2, 5, 9, 2, arrival, 3, 0, 2, 9, arrival]), 14);
+        assert_eq!(number(&[1, 5, 2, 2, 3, 1, 5, 2, 2, arrival]), 0);
+        assert_eq!(number(&[1, 5, 2, 2, 3, 1, 4, 2, 2, arrival]), 7);
+        assert_eq!(number(&[1, 5, 2, 2, arrival, 1, 4, 2, 2, arrival]), 14);
+        assert_eq!(number(&[1, 5, 2, 2, arrival, 1, 4, 0, 0, arrival]), 6);
+        assert_eq!(number(&[1, 5, 2, 2, arrival, 1, 4, 2, 2]), 6);
+    }
+    assert_eq!(number(&[1, 5, 2, 2, 0]), 14);
+    assert_eq!(number(&[2, 5, 9, 2, 0]), 14);
+    assert_eq!(number(&[3, 0, 2, 9, 0]), 14);
+    assert_eq!(number(&[3, 0, 9, 2, 0]), 14);
+    assert_eq!(number(&[1, 5, 2, 2, 0, 1, 4, 2, 2, 1]), 14);
+    assert_eq!(number(&[1, 5, 2, 2, 1, 1, 4, 2, 2, 0]), 14);
+    assert_eq!(number(&[1, 5, 2, 3, 0]), 6);
+    assert_eq!(number(&[4, 5, 2, 2, 0]), 6);
+    // Of 4,096 any two, wherever they stand; of 4,097 always 6.
+    let most = batches::numbered(&[1, 5, 2, 2].repeat(4096));
+    assert_eq!(number(&most), 0);
+    for (one, other) in [(0, 1), (0, 4095), (17, 3000), (4094, 4095)] {
+        for arrival in [0, 1, 4096, 4097, top] {
+            let mut twice = most.clone();
+            twice[5 * one + 4] = arrival;
+            twice[5 * other + 4] = arrival;
+            assert_eq!(number(&twice), 14);
+            assert_eq!(number(&[&twice[..], &[1, 5, 2, 2, 9999]].concat()), 6);
+        }
+    }
+}
+
+/// What a batch leaves of (5,2), (5,9), (7,4), by the order of arrival alone.
+#[test]
+fn the_latest_record_decides() {
+    let set = BTreeSet::from([(5, 2), (5, 9), (7, 4)]);
+    let top = u32::MAX;
+    let cases: [(&[u32], &[Pair]); 16] = [
+        // An addition and the removal of its pair, of both kinds.
+        (&[1, 6, 1, 1, 1, 2, 6, 1, 9, 2], &[(5, 2), (5, 9), (7, 4)]),
+        (
+            &[1, 6, 1, 1, 2, 2, 6, 1, 9, 1],
+            &[(5, 2), (5, 9), (6, 1), (7, 4)],
+        ),
+        (&[3, 0, 1, 9, 2, 1, 6, 1, 1, 1], &[]),
+        (&[3, 0, 1, 9, 1, 1, 6, 1, 1, 2], &[(6, 1)]),
+        (&[3, 0, 1, 9, top, 1, 6, 1, 1, top - 1], &[]),
+        (&[3, 0, 1, 9, top - 1, 1, 6, 1, 1, top], &[(6, 1)]),
+        // A removal before and one after the addition.
+        (
+            &[3, 0, 9, 9, 1, 2, 5, 9, 9, 3, 1, 5, 9, 9, 2],
+            &[(5, 2), (7, 4)],
+        ),
+        (
+            &[3, 0, 9, 9, 3, 2, 5, 9, 9, 1, 1, 5, 9, 9, 2],
+            &[(5, 2), (7, 4)],
+        ),
+        (
+            &[3, 0, 9, 9, 1, 2, 5, 9, 9, 2, 1, 5, 9, 9, 3],
+            &[(5, 2), (5, 9), (7, 4)],
+        ),
+        // Two additions around a removal.
+        (
+            &[1, 5, 9, 9, 1, 2, 5, 9, 9, 2, 1, 5, 9, 9, 3],
+            &[(5, 2), (5, 9), (7, 4)],
+        ),
+        (
+            &[1, 5, 9, 9, 3, 2, 5, 9, 9, 2, 1, 5, 9, 9, 1],
+            &[(5, 2), (5, 9), (7, 4)],
+        ),
+        (
+            &[1, 5, 9, 9, 2, 2, 5, 9, 9, 3, 1, 5, 9, 9, 1],
+            &[(5, 2), (7, 4)],
+        ),
+        // Records beside the pair, and of another term, arrive in vain.
+        (&[1, 5, 9, 9, 1, 2, 5, 10, 12, 2], &[(5, 2), (5, 9), (7, 4)]),
+        (&[1, 5, 9, 9, 1, 2, 6, 1, 12, 2], &[(5, 2), (5, 9), (7, 4)]),
+        // So does a range with no position.
+        (&[1, 5, 9, 9, 1, 2, 5, 9, 2, 2], &[(5, 2), (5, 9), (7, 4)]),
+        (
+            &[3, 0, 9, 2, 3, 2, 5, 2, 9, 1, 1, 5, 9, 9, 2],
+            &[(5, 9), (7, 4)],
+        ),
+    ];
+    for (batch, expected) in cases {
+        assert_eq!(second::judge_batch(batch), 0);
+        let left: Vec<Pair> = second::applied(batch, &set).into_iter().collect();
+        assert_eq!(left, expected, "{batch:?}");
+        // Once more it changes nothing.
+        let again = second::applied(batch, &left.iter().copied().collect());
+        assert!(again.iter().eq(&left), "{batch:?}");
+    }
+}
+
 #[test]
 fn numbers_of_annulments() {
-    let number = second::judge_batch;
+    let number = |plain: &[u32]| second::judge_batch(&batches::numbered(plain));
     let top = u32::MAX;
     for good in [
         &[3, 0, 1, 1][..],
@@ -265,13 +380,14 @@ fn numbers_of_annulments() {
     }
 }
 
-/// The batch has this number, also behind good records in front and before good ones at the end, and
+/// The batch, without arrival numbers, has this number, also behind good records in front and before good ones at the end, and
 /// a step with it writes nothing.
 fn is_refused(wrong: &[u32], expected: u32) {
     let mut random = Random::new(14);
     for batch in batches::around(&mut random, wrong, true) {
         assert_eq!(second::judge_batch(&batch), expected, "{wrong:?}");
     }
+    let wrong = &batches::numbered(wrong);
     let mut card = p1(4);
     let before = card.clone();
     assert_eq!(second::step(&mut card, wrong), refused(expected));
@@ -283,7 +399,7 @@ fn is_refused(wrong: &[u32], expected: u32) {
 /// other grounds are as they were.
 #[test]
 fn numbers_of_empty_ranges() {
-    let number = second::judge_batch;
+    let number = |plain: &[u32]| second::judge_batch(&batches::numbered(plain));
     for (from, to) in EMPTY_RANGES {
         for term in [1, 5, u32::MAX] {
             assert_eq!(number(&[2, term, from, to]), 0);
@@ -313,9 +429,9 @@ fn empty_ranges_remove_nothing() {
     let top = u32::MAX;
     for (from, to) in EMPTY_RANGES {
         for term in [1, 4, 5, 6, 7, 8, top] {
-            assert_eq!(second::applied(&[2, term, from, to], &set), set);
+            assert_eq!(second::applied(&[2, term, from, to, 1], &set), set);
         }
-        assert_eq!(second::applied(&[3, 0, from, to], &set), set);
+        assert_eq!(second::applied(&[3, 0, from, to, 1], &set), set);
     }
     let cases: [(&[u32], &[Pair]); 14] = [
         (&[2, 5, 9, 2], all),
@@ -339,8 +455,9 @@ fn empty_ranges_remove_nothing() {
         ),
     ];
     for (batch, expected) in cases {
-        assert_eq!(second::judge_batch(batch), 0);
-        let left: Vec<Pair> = second::applied(batch, &set).into_iter().collect();
+        let batch = batches::numbered(batch);
+        assert_eq!(second::judge_batch(&batch), 0);
+        let left: Vec<Pair> = second::applied(&batch, &set).into_iter().collect();
         assert_eq!(left, expected, "{batch:?}");
     }
 }
@@ -373,10 +490,13 @@ fn empty_ranges_change_no_step() {
         &[2, 5, 1, top, 2, 5, 9, 2, 2, 7, 1, top, 2, top, top, 1],
     ];
     for (plain, with) in plain.into_iter().zip(with) {
-        assert_eq!(run(plain), run(with), "{with:?}");
-        assert_eq!(batches::without_empty_ranges(with), plain);
+        let with = batches::numbered(with);
+        assert_eq!(run(&batches::numbered(plain)), run(&with), "{with:?}");
+        let without = batches::without_empty_ranges(&with);
+        assert_eq!(batches::plain(&without), plain);
+        assert_eq!(run(&without), run(&with), "{with:?}");
     }
-    let (answers, cards) = run(&[3, 0, 9, 2]);
+    let (answers, cards) = run(&[3, 0, 9, 2, 1]);
     assert_eq!(
         answers,
         [done(1, 0, false), done(2, 0, false), done(3, 1, true)]
@@ -397,7 +517,7 @@ fn an_annulled_round() {
     assert_eq!(card[..8], [1, 8, 5, 0, 2, 0, 0, 0]);
 
     let batch = batches::words(vec![addition(7, 9), annulment(3, 9)]);
-    assert_eq!(batch, [3, 0, 3, 9, 1, 7, 9, 9]);
+    assert_eq!(batch, [3, 0, 3, 9, 1, 1, 7, 9, 9, 2]);
     assert_eq!(second::blocks_filled(&card, &batch), 2);
     let mut history = History::new(8);
     assert_eq!(history.step(&adding, true), Some(false));
@@ -461,8 +581,9 @@ fn annulments_written_out() {
         (&[3, 0, 1, 9, 2, 5, 9, 9, 1, 5, 9, 9], &[(5, 9)]),
     ];
     for (batch, expected) in cases {
-        assert_eq!(second::judge_batch(batch), 0);
-        let left: Vec<Pair> = second::applied(batch, &set).into_iter().collect();
+        let batch = batches::numbered(batch);
+        assert_eq!(second::judge_batch(&batch), 0);
+        let left: Vec<Pair> = second::applied(&batch, &set).into_iter().collect();
         assert_eq!(left, expected, "{batch:?}");
     }
 }
@@ -615,19 +736,24 @@ struct Met {
     annulled_and_removed: u64,
     beside: u64,
     in_an_empty_range: u64,
+    added_last: u64,
+    removed_last: u64,
+    annulled_last: u64,
 }
 
-/// Whether a pair is in the set less everything removed, plus everything added: it is where some
-/// record adds it, or where it was there and no record removes it.
+/// Whether a pair is in the set after a batch: the record that touches it and has the greatest arrival
+/// number says so, and where none touches it, it is as it was.
 fn expected_in(met: &mut Met, batch: &[u32], set: &BTreeSet<Pair>, pair: Pair) -> bool {
     let (term, position) = pair;
-    let mut added = false;
-    let mut removed = false;
-    let mut annulled = false;
+    // The greatest arrival number of those that add the pair, remove it, annul it; 0 for none.
+    let mut added = 0;
+    let mut removed = 0;
+    let mut annulled = 0;
     let mut beside = false;
     let mut empty = false;
-    for record in batch.chunks(4) {
+    for record in batch.chunks(5) {
         let (kind, its_term, from, to) = (record[0], record[1], record[2], record[3]);
+        let arrival = record[4];
         let within = from <= position && position <= to;
         if from > to {
             // No position is within it.
@@ -635,26 +761,38 @@ fn expected_in(met: &mut Met, batch: &[u32], set: &BTreeSet<Pair>, pair: Pair) -
             continue;
         }
         match kind {
-            1 => added |= its_term == term && from == position,
-            2 => removed |= its_term == term && within,
+            1 if its_term == term && from == position => added = added.max(arrival),
+            2 if its_term == term && within => removed = removed.max(arrival),
+            1 | 2 => {}
             _ => {
                 assert_eq!((kind, its_term), (3, 0));
-                annulled |= within;
+                if within {
+                    annulled = annulled.max(arrival);
+                }
                 beside |= !within && (position == from - 1 || position - 1 == to);
             }
         }
     }
     let was = set.contains(&pair);
+    let gone = removed.max(annulled);
     met.checked += 1;
-    met.annulled += u64::from(was && annulled && !removed && !added);
-    met.annulled_and_added += u64::from(was && annulled && added);
-    met.annulled_and_removed += u64::from(was && annulled && removed && !added);
-    met.beside += u64::from(was && beside && !annulled && !removed);
-    met.in_an_empty_range += u64::from(was && empty && !annulled && !removed);
-    added || (was && !removed && !annulled)
+    met.annulled += u64::from(was && annulled > 0 && removed == 0 && added == 0);
+    met.annulled_and_added += u64::from(was && annulled > 0 && added > 0);
+    met.annulled_and_removed += u64::from(was && annulled > 0 && removed > 0 && added == 0);
+    met.beside += u64::from(was && beside && gone == 0);
+    met.in_an_empty_range += u64::from(was && empty && gone == 0);
+    met.added_last += u64::from(gone > 0 && added > gone);
+    met.removed_last += u64::from(added > 0 && removed > added && removed > annulled);
+    met.annulled_last += u64::from(added > 0 && annulled > added && annulled > removed);
+    if added == 0 && gone == 0 {
+        was
+    } else {
+        added > gone
+    }
 }
 
-/// A pair is in the result where it was added, or was there and not removed.
+/// A pair is in the result where the latest record that touches it adds it, or where it was there and
+/// none touches it.
 #[test]
 fn batches_applied_pair_by_pair() {
     let mut random = Random::new(12);
@@ -685,6 +823,7 @@ fn batches_applied_pair_by_pair() {
     assert!(met.annulled > 5_000 && met.annulled_and_added > 500);
     assert!(met.annulled_and_removed > 500 && met.beside > 500);
     assert!(met.in_an_empty_range > 500);
+    assert!(met.added_last > 500 && met.removed_last > 500 && met.annulled_last > 500);
 }
 
 /// Stretches of every shape, up to the most records, beside other records, over positions at their
@@ -722,7 +861,7 @@ fn stretches_applied_pair_by_pair() {
                     records.push(record);
                 }
             }
-            let batch = batches::words(records);
+            let batch = batches::drawn_words(&mut random, records);
             assert_eq!(second::judge_batch(&batch), 0);
             let result = second::applied(&batch, &set);
             for &pair in set.iter().chain(&result) {
@@ -844,7 +983,7 @@ fn removals_of(random: &mut Random, card: &[u32]) -> Vec<u32> {
             }
         }
     }
-    batches::words(records)
+    batches::drawn_words(random, records)
 }
 
 #[test]
@@ -861,7 +1000,7 @@ fn removals_with_two_places_free_always_go_through() {
         let batch = removals_of(&mut random, &card);
         let free = Configuration::read(&card).free_places().len();
         let (_, number) = whole_pass(&mut card, &batch);
-        let alone = batches::annuls(&batch) && batch.chunks(4).all(|record| record[0] == 3);
+        let alone = batches::annuls(&batch) && batch.chunks(5).all(|record| record[0] == 3);
         if free >= 2 {
             assert_eq!(number, 0);
             passes += 1;
@@ -1169,7 +1308,7 @@ fn files_of_no_line_and_of_empty_lines() {
 
 #[test]
 fn lines_of_records_and_of_another_form() {
-    let read = |text: &[u8]| scores::record(text);
+    let read = |text: &[u8]| scores::record(text, 1);
     assert_eq!(read(b"A\t5\t2"), Some(addition(5, 2)));
     assert_eq!(read(b"R\t5\t2\t9"), Some(removal(5, 2, 9)));
     assert_eq!(read(b"R\t5\t9\t2"), Some(removal(5, 9, 2)));
@@ -1258,38 +1397,45 @@ fn lines_of_records_and_of_another_form() {
 #[test]
 fn batches_of_files() {
     let text = "R\t7\t4\t9\nA\t5\t9\nA\t7\t4\nA\t10\t1\nA\t5\t2\nR\t7\t4\t5\n";
+    // Each record has its line's number at its end.
     let batch = [
-        1, 5, 2, 2, 1, 5, 9, 9, 2, 7, 4, 9, 1, 7, 4, 4, 2, 7, 4, 5, 1, 10, 1, 1,
-    ];
+        [1, 5, 2, 2, 5],
+        [1, 5, 9, 9, 2],
+        [2, 7, 4, 9, 1],
+        [1, 7, 4, 4, 3],
+        [2, 7, 4, 5, 6],
+        [1, 10, 1, 1, 4],
+    ]
+    .concat();
     assert_eq!(scores::fault(text.as_bytes()), None);
     assert_eq!(scores::batch(text.as_bytes()), batch);
-    assert_eq!(scores_with(text, 24, &batch), scores_answer(0, 24, 0));
-    assert_eq!(scores_with(text, 30, &batch), scores_answer(0, 24, 0));
-    for room in 0..24 {
+    assert_eq!(scores_with(text, 30, &batch), scores_answer(0, 30, 0));
+    assert_eq!(scores_with(text, 37, &batch), scores_answer(0, 30, 0));
+    for room in 0..30 {
         assert_eq!(scores_with(text, room, &[]), scores_answer(10, 0, 0));
     }
     // 12 before 10, and its line alone is told.
     let wrong = text.replace("10", "010");
-    for room in [0, 23, 24, 30] {
+    for room in [0, 24, 29, 30, 37] {
         assert_eq!(scores_with(&wrong, room, &[]), scores_answer(12, 0, 4));
     }
     let swapped = text.replace("R\t7\t4\t9", "R\t7\t4\t1");
     let words = scores::batch(swapped.as_bytes());
-    assert_eq!(words[8..12], [2, 7, 4, 1]);
+    assert_eq!(words[10..15], [2, 7, 4, 1, 1]);
     // A range that has no position stands by its from as well.
     let words = scores::batch(b"R\t5\t9\t3\nA\t5\t4\nA\t5\t10");
-    assert_eq!(words, [1, 5, 4, 4, 2, 5, 9, 3, 1, 5, 10, 10]);
+    assert_eq!(words, [1, 5, 4, 4, 2, 2, 5, 9, 3, 1, 1, 5, 10, 10, 3]);
     // Many lines, sixteen to a from, the froms falling: each sixteen stay in the order of their lines.
     let mut many = String::new();
     for i in 0..4096 {
         many += &format!("R\t5\t{}\t{i}\n", 1000 - i / 16);
     }
     let words = scores::batch(many.as_bytes());
-    assert_eq!(words.len(), 16_384);
-    for (record, at) in words.chunks(4).zip(0..) {
+    assert_eq!(words.len(), 20_480);
+    for (record, at) in words.chunks(5).zip(0..) {
         let from = 745 + at / 16;
         let to = 16 * (255 - at / 16) + at % 16;
-        assert_eq!(record, [2, 5, from, to]);
+        assert_eq!(record, [2, 5, from, to, to + 1]);
     }
 }
 
@@ -1325,7 +1471,7 @@ fn the_4097th_line() {
     // 13 also before 10, with all words left.
     let more = most + "A\t5\t2\n";
     assert_eq!(scores_with(&more, 0, &[]), scores_answer(13, 0, 4097));
-    assert_eq!(scores_with(&more, 16_384, &[]), scores_answer(13, 0, 4097));
+    assert_eq!(scores_with(&more, 20_480, &[]), scores_answer(13, 0, 4097));
 }
 
 /// A block of 8 words has room for six positions of one term, or for two terms with a position each.
@@ -1334,8 +1480,13 @@ fn the_4097th_line() {
 fn passes_of_files() {
     prints("A\t5\t2", "D\t3\n");
     prints("R\t5\t2\t9", "D\t1\n");
-    prints("A\t5\t2\nR\t5\t1\t9", "D\t3\n");
+    // Added, then taken back: nothing remains. The other way round it stays.
+    prints("A\t5\t2\nR\t5\t1\t9", "D\t1\n");
     prints("R\t5\t1\t9\nA\t5\t2", "D\t3\n");
+    prints("A\t5\t2\nR\t5\t1\t9\nA\t5\t2", "D\t3\n");
+    prints("R\t5\t1\t9\nA\t5\t2\nR\t5\t2\t2", "D\t1\n");
+    prints("A\t5\t2\nR\t6\t1\t9", "D\t3\n");
+    prints("A\t5\t2\nR\t5\t3\t9", "D\t3\n");
     // The lines of P1 in two orders, with those of P2 and P3.
     prints("A\t5\t2\nA\t5\t9\nA\t7\t4", "D\t3\n");
     prints("A\t7\t4\nA\t5\t9\nA\t5\t2", "D\t3\n");
@@ -1418,11 +1569,13 @@ fn stops(blocks: u32, limit: u32, writes: u32) -> ForecastAnswer {
     }
 }
 
-/// Each batch has its forecast on this card, and the second program's run agrees with it.
+/// Each batch, without arrival numbers and with additions that arrive after all removals, has its
+/// forecast on this card, and the second program's run agrees with it.
 fn forecasts(card: &[u32], cases: &[(&[u32], ForecastAnswer)]) {
-    for (batch, expected) in cases {
-        assert_eq!(second::forecast(card, batch), *expected, "{batch:?}");
-        forecast_agrees(card, batch);
+    for (plain, expected) in cases {
+        let batch = batches::numbered(plain);
+        assert_eq!(second::forecast(card, &batch), *expected, "{plain:?}");
+        forecast_agrees(card, &batch);
     }
 }
 
@@ -1456,7 +1609,7 @@ fn forecasts_of_p1_to_p6() {
     forecasts(
         &zeros(4),
         &[
-            (&p1_batch(), finishes(1, 3)),
+            (&batches::plain(&p1_batch()), finishes(1, 3)),
             (&[], finishes(0, 1)),
             (&[2, 5, 1, 9], finishes(0, 1)),
         ],
@@ -1489,7 +1642,7 @@ fn forecasts_of_p1_to_p6() {
     );
     // P3 after its first configuration write.
     let mut card = p1(4);
-    assert_eq!(cards::run(&mut card, &[1, 8, 1, 1], 3), 0);
+    assert_eq!(cards::run(&mut card, &[1, 8, 1, 1, 1], 3), 0);
     assert_eq!(card[..8], [1, 8, 4, 1, 0, 1, 7, 4]);
     forecasts(&card, &[(&[1, 8, 1, 1], finishes(1, 3))]);
     // P4, from the start and where it stopped.
@@ -1498,7 +1651,7 @@ fn forecasts_of_p1_to_p6() {
         &[(&[1, 8, 1, 1], stops(2, 6, 1)), (&[], finishes(1, 3))],
     );
     let mut card = p1(2);
-    assert_eq!(cards::run(&mut card, &[1, 8, 1, 1], 4), 8);
+    assert_eq!(cards::run(&mut card, &[1, 8, 1, 1, 1], 4), 8);
     assert_eq!(card[..8], [1, 8, 2, 1, 0, 1, 7, 4]);
     forecasts(
         &card,
@@ -1741,21 +1894,24 @@ fn forecasts_by_how_many_fit() {
         (2047, stops(1024, 3072, 1023)),
         (4096, stops(2048, 6144, 1023)),
     ] {
-        assert_eq!(second::forecast(&most, &many_terms(count)), expected);
+        let batch = batches::numbered(&many_terms(count));
+        assert_eq!(second::forecast(&most, &batch), expected);
     }
 }
 
-/// 1 to 4 for the card, then 6, then 7; 8 is none of them.
+/// 1 to 4 for the card, then 6, then 14, then 7; 8 is none of them.
 #[test]
 fn numbers_of_the_forecast() {
     let card = p1(2);
-    let good: &[u32] = &[1, 8, 1, 1];
-    let form: &[u32] = &[1, 8, 1, 1, 1, 7, 0, 0];
-    let order: &[u32] = &[1, 8, 1, 1, 1, 7, 1, 1];
+    let good: &[u32] = &[1, 8, 1, 1, 1];
+    let form: &[u32] = &[1, 8, 1, 1, 1, 1, 7, 0, 0, 1];
+    let arrival: &[u32] = &[1, 8, 1, 1, 1, 1, 7, 1, 1, 1];
+    let order: &[u32] = &[1, 8, 1, 1, 1, 1, 7, 1, 1, 2];
     assert_eq!(second::forecast(&card, good), stops(2, 6, 1));
     assert_eq!(second::forecast(&card, form), no_forecast(6));
+    assert_eq!(second::forecast(&card, arrival), no_forecast(14));
     assert_eq!(second::forecast(&card, order), no_forecast(7));
-    for batch in [good, form, order, &[1]] {
+    for batch in [good, form, arrival, order, &[1]] {
         for (number, word, value) in [(1, 1, 9), (2, 0, 2), (3, 2, 1), (3, 6, 1), (4, 8, 6)] {
             let mut wrong = card.clone();
             wrong[word] = value;
@@ -1766,7 +1922,8 @@ fn numbers_of_the_forecast() {
         }
     }
     for (wrong, number) in WRONG_ANNULMENTS.iter().chain(&WRONG_EMPTY_RANGES) {
-        assert_eq!(second::forecast(&card, wrong), no_forecast(*number));
+        let wrong = batches::numbered(wrong);
+        assert_eq!(second::forecast(&card, &wrong), no_forecast(*number));
     }
 }
 

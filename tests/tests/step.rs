@@ -3,31 +3,23 @@
 use std::collections::BTreeSet;
 
 use gameindex_tests::batches::{
-    self, addition, annulment, removal, Mixture, Universe, WRONG_ANNULMENTS, WRONG_EMPTY_RANGES,
+    self, addition, annulment, removal, Mixture, Universe, PLAIN_WORDS, WRONG_ANNULMENTS,
+    WRONG_EMPTY_RANGES,
 };
 use gameindex_tests::cards;
 use gameindex_tests::compare::{self, done, refused, Steps};
 use gameindex_tests::ffi;
 use gameindex_tests::random::Random;
+use gameindex_tests::second::batch::{Record, RECORD_WORDS};
 use gameindex_tests::second::{self, Configuration, History, Pair, StepAnswer, HIGHEST};
 
 const TOP: u32 = u32::MAX;
-
-/// A good batch, over a universe or at the card's own pairs.
-fn any_batch(random: &mut Random, card: &[u32], universe: &Universe, most: usize) -> Vec<u32> {
-    let mixture = Mixture::random(random);
-    if random.chance(1, 2) {
-        batches::near(random, card, mixture, most)
-    } else {
-        batches::good(random, universe, mixture, most)
-    }
-}
 
 /// The card after P1, on zeros, its steps checked on the way.
 fn p1(n: u32) -> Vec<u32> {
     let mut card = vec![0; cards::right_length(8, n)];
     assert_eq!(ffi::format(&mut card, 8, n), 0);
-    let batch = [1, 5, 2, 2, 1, 5, 9, 9, 1, 7, 4, 4];
+    let batch = [1, 5, 2, 2, 1, 1, 5, 9, 9, 2, 1, 7, 4, 4, 3];
     let mut expected = card.clone();
     let block = 8 + 2 * n as usize;
     assert_eq!(ffi::step(&mut card, &batch), done(1, 0, false));
@@ -42,7 +34,7 @@ fn p1(n: u32) -> Vec<u32> {
     card
 }
 
-/// P1 to P6 by the paper's own words.
+/// P1 to P6 by the paper's own words, with arrival numbers; P5 in both orders of arrival.
 #[test]
 fn step_on_the_papers_cases() {
     let mut comparisons = 6;
@@ -61,119 +53,108 @@ fn step_on_the_papers_cases() {
     };
 
     // P2. Blocks from word 16; place 1 from 24, place 2 from 32.
-    let mut card = p1(4);
-    run(&mut card, &[1, 7, 11, 11], &three(1, true));
-    assert_eq!(card[24..32], [5, 2, 2, 9, 7, 2, 4, 11]);
-    assert_eq!(card[..8], [1, 8, 4, 1, 1, 0, 0, 0]);
+    for arrival in [1, 2, 4096, 4097, TOP] {
+        let mut card = p1(4);
+        run(&mut card, &[1, 7, 11, 11, arrival], &three(1, true));
+        assert_eq!(card[24..32], [5, 2, 2, 9, 7, 2, 4, 11]);
+        assert_eq!(card[..8], [1, 8, 4, 1, 1, 0, 0, 0]);
+    }
 
     // P3.
     let mut card = p1(4);
-    run(&mut card, &[1, 8, 1, 1], &three(1, false));
+    run(&mut card, &[1, 8, 1, 1, 1], &three(1, false));
     assert_eq!(card[24..32], card[16..24]);
     assert_eq!(card[..8], [1, 8, 4, 1, 0, 1, 7, 4]);
-    run(&mut card, &[1, 8, 1, 1], &three(0, true));
+    run(&mut card, &[1, 8, 1, 1, 1], &three(0, true));
     assert_eq!(card[32..40], [8, 1, 1, 0, 0, 0, 0, 0]);
     assert_eq!(card[..8], [1, 8, 4, 1, 2, 0, 0, 0]);
 
     // P4.
     let mut card = p1(2);
-    run(&mut card, &[1, 8, 1, 1], &three(1, false));
+    run(&mut card, &[1, 8, 1, 1, 1], &three(1, false));
     let stopped = card.clone();
-    run(&mut card, &[1, 8, 1, 1], &[refused(8), refused(8)]);
+    run(&mut card, &[1, 8, 1, 1, 1], &[refused(8), refused(8)]);
     assert_eq!(card, stopped);
     assert_eq!(card[..8], [1, 8, 2, 1, 0, 1, 7, 4]);
     run(&mut card, &[], &[done(3, 0, true)]);
     assert_eq!(card[..8], [1, 8, 2, 1, 1, 0, 0, 0]);
     assert_eq!(card[8..], stopped[8..]);
 
-    // P5.
-    let mut card = p1(4);
-    run(&mut card, &[2, 5, 2, 9, 1, 5, 9, 9], &three(1, true));
-    assert_eq!(card[24..32], [5, 1, 9, 7, 1, 4, 0, 0]);
-    assert_eq!(card[..8], [1, 8, 4, 1, 1, 0, 0, 0]);
+    // P5: (5,9) stays only where the addition arrived second.
+    for (removed, added) in [(1, 2), (2, 1), (1, TOP), (TOP, 1), (65_536, 4), (4, 65_536)] {
+        let mut card = p1(4);
+        let batch = [2, 5, 2, 9, removed, 1, 5, 9, 9, added];
+        run(&mut card, &batch, &three(1, true));
+        if removed < added {
+            assert_eq!(card[24..32], [5, 1, 9, 7, 1, 4, 0, 0]);
+        } else {
+            assert_eq!(card[24..32], [7, 1, 4, 0, 0, 0, 0, 0]);
+        }
+        assert_eq!(card[..8], [1, 8, 4, 1, 1, 0, 0, 0]);
+    }
 
     // P6.
-    let mut card = p1(4);
-    let batch = [2, 5, 1, TOP, 2, 7, 1, TOP];
-    run(&mut card, &batch, &[done(3, 1, true)]);
-    assert_eq!(card[..8], [1, 8, 4, 1, 0, 0, 0, 0]);
+    for (one, other) in [(1, 2), (2, 1)] {
+        let mut card = p1(4);
+        let batch = [2, 5, 1, TOP, one, 2, 7, 1, TOP, other];
+        run(&mut card, &batch, &[done(3, 1, true)]);
+        assert_eq!(card[..8], [1, 8, 4, 1, 0, 0, 0, 0]);
+    }
     println!("step_on_the_papers_cases: {comparisons} comparisons");
 }
 
-/// Small cards in every state: fresh, after passes, in mid-pass, full, full in mid-pass.
-fn small_cards() -> Vec<Vec<u32>> {
-    let laid_out = |n, start, old: Vec<Vec<Pair>>, new: Vec<Vec<Pair>>| {
-        let memory = vec![2; cards::right_length(8, n)];
-        let card = cards::laid_out(memory, 8, n, start, &old, &new);
-        assert_eq!(second::judge(&card), 0);
-        card
-    };
-    let few = vec![(1, 1), (1, 2), (2, TOP)];
-    let full = vec![(1, 2), (1, TOP), (2, 1), (2, 2)];
-    let high = vec![(TOP, 1), (TOP, 2), (TOP, TOP)];
-    let low = vec![(1, 1), (1, 2)];
-    let across = vec![(2, 1), (TOP, TOP)];
-    vec![
-        laid_out(3, 0, vec![], vec![]),
-        laid_out(2, 1, vec![full.clone()], vec![]),
-        laid_out(3, 2, vec![few.clone(), high.clone()], vec![]),
-        laid_out(4, 3, vec![full.clone()], vec![low]),
-        laid_out(3, 1, vec![high.clone()], vec![full]),
-        laid_out(2, 0, vec![], vec![few.clone()]),
-        laid_out(4, 2, vec![across], vec![few, vec![(3, 3)]]),
-        laid_out(3, 2, vec![], vec![high]),
-    ]
-}
-
-/// Every batch of one record and of two over small alphabets, and what is left of it when its last
-/// words are missing.
+/// Every batch of one record and of two over small alphabets, two in both orders of arrival, and what
+/// is left of it when its last words are missing.
 #[test]
 fn step_with_every_small_batch() {
     let mut steps = Steps::new();
-    let mut records: Vec<[u32; 4]> = Vec::new();
-    for kind in [0, 1, 2, 3, 4, TOP] {
-        for term in [0, 1, 2, TOP] {
-            for from in [0, 1, 2, TOP] {
-                for to in [0, 1, 2, TOP] {
-                    records.push([kind, term, from, to]);
+    let records = batches::every_small_record();
+    let cards = cards::small();
+    for card in &cards {
+        for record in &records {
+            for arrival in [1, 0, TOP] {
+                let batch = batches::with_arrivals(record, &[arrival]);
+                for length in 0..=batch.len() {
+                    if arrival == 1 || length == batch.len() {
+                        let batch = &batch[..length];
+                        compare::step(&mut steps, &mut card.clone(), batch, &String::new);
+                    }
                 }
             }
         }
     }
-    let cards = small_cards();
-    for card in &cards {
-        for record in &records {
-            for length in 0..=4 {
-                let batch = &record[..length];
-                compare::step(&mut steps, &mut card.clone(), batch, &String::new);
-            }
-        }
-    }
-    let good = |record: &&[u32; 4]| second::judge_batch(&record[..]) == 0;
-    let good_records: Vec<&[u32; 4]> = records.iter().filter(good).collect();
+    let good_records = batches::every_good_small_record();
     let mut random = Random::new(21);
     for one in &records {
         // Any two, and all two good ones.
         for _ in 0..24 {
             let other = random.pick(&records);
-            let batch = if random.chance(1, 2) {
+            let plain = if random.chance(1, 2) {
                 [*one, other].concat()
             } else {
                 [other, *one].concat()
             };
+            let arrivals = [
+                random.pick(&[0, 1, 2, 2, TOP]),
+                random.pick(&[1, 1, 2, TOP]),
+            ];
+            let batch = batches::with_arrivals(&plain, &arrivals);
             let mut card = cards[random.below(cards.len())].clone();
             compare::step(&mut steps, &mut card, &batch, &String::new);
         }
     }
     for one in &good_records {
         for other in &good_records {
-            let batch = [one.as_slice(), other.as_slice()].concat();
-            for card in &cards {
-                let mut card = card.clone();
-                if second::judge_batch(&batch) == 0 {
-                    compare::pass(&mut steps, &mut card, &batch, &String::new);
-                } else {
-                    compare::step(&mut steps, &mut card, &batch, &String::new);
+            let plain = [one.as_slice(), other.as_slice()].concat();
+            for arrivals in [[1, 2], [2, 1], [2, 2]] {
+                let batch = batches::with_arrivals(&plain, &arrivals);
+                for card in &cards {
+                    let mut card = card.clone();
+                    if second::judge_batch(&batch) == 0 {
+                        compare::pass(&mut steps, &mut card, &batch, &String::new);
+                    } else {
+                        compare::step(&mut steps, &mut card, &batch, &String::new);
+                    }
                 }
             }
         }
@@ -183,12 +164,12 @@ fn step_with_every_small_batch() {
         "step_with_every_small_batch: {} good records",
         good_records.len()
     );
-    steps.expect(&[0, 6], 5_000);
+    steps.expect(&[0, 6, 14], 5_000);
     steps.expect(&[7], 1_000);
     steps.expect(&[8], 100);
 }
 
-/// Every ground of 6 and 7 at every record of batches of all lengths, alone and with another fault,
+/// Every ground of 6, 14 and 7 at every record of batches of all lengths, alone and with another fault,
 /// on cards where 8 would follow as well.
 #[test]
 fn step_with_bad_batches() {
@@ -202,66 +183,54 @@ fn step_with_bad_batches() {
         };
         let universe = Universe::random(&mut random);
         let count = [1, 2, 3, 5, 9, 17, 40][round as usize % 7];
-        let batch = exactly(&mut random, &universe, count);
+        let batch = batches::exactly(&mut random, &universe, count);
         for at in 0..count {
-            let word = 4 * at;
-            let record = &batch[word..word + 4];
-            let (from, to) = (record[2], record[3]);
-            let mut faults: Vec<(usize, u32)> = vec![
-                (0, 0),
-                (0, 1),
-                (0, 2),
-                (0, 3),
-                (0, 4),
-                (0, 1 << 16 | 1),
-                (0, 1 << 16 | 3),
-                (0, TOP),
-                (1, 0),
-                (1, 5),
-                (2, 0),
-                (3, 0),
-                (2, to.wrapping_add(1)),
-                (3, from.wrapping_sub(1)),
-                (2, TOP),
-                (3, 1),
-                (1, 1),
-                (1, TOP),
-                (2, 1),
-                (3, TOP),
-            ];
-            faults.push((random.below(4), random.word()));
+            let word = RECORD_WORDS * at;
+            let faults = batches::faults(&mut random, &batch, at);
             for (field, value) in faults {
                 let mut bad = batch.clone();
                 bad[word + field] = value;
                 if random.chance(1, 4) {
-                    // Another fault anywhere, so that 6 and 7 meet in either order.
+                    // Another fault anywhere, so that 6, 14 and 7 meet in any order.
                     let other = random.below(bad.len());
                     bad[other] = random.pick(&[0, 1, 2, 3, TOP]);
                 }
                 let about = || format!("record {at}, field {field}");
                 compare::step(&mut steps, &mut card.clone(), &bad, &about);
             }
+            let plain = batches::plain(&batch);
+            let place = PLAIN_WORDS * at;
             for (wrong, _) in WRONG_ANNULMENTS.iter().chain(&WRONG_EMPTY_RANGES) {
                 if random.chance(1, 8) {
-                    let mut bad = batch.clone();
-                    bad.splice(word..word, wrong.iter().copied());
+                    let mut bad = plain.clone();
+                    bad.splice(place..place, wrong.iter().copied());
+                    let bad = batches::arriving(&mut random, &bad);
                     let about = || format!("{wrong:?} before record {at}");
                     compare::step(&mut steps, &mut card.clone(), &bad, &about);
                 }
             }
             if at > 0 {
-                // A fall by term, a fall by from, and repeats.
-                let mut falls = batch.clone();
-                falls.copy_within(word - 4..word, word);
-                compare::step(&mut steps, &mut card.clone(), &falls, &String::new);
-                falls[word] = 2;
-                falls[word + 3] = TOP;
-                compare::step(&mut steps, &mut card.clone(), &falls, &String::new);
-                falls[word + 2] = falls[word + 2].saturating_sub(1);
-                compare::step(&mut steps, &mut card.clone(), &falls, &String::new);
-                falls[word + 1] = falls[word + 1].saturating_sub(1);
-                falls[word + 2] = TOP;
-                compare::step(&mut steps, &mut card.clone(), &falls, &String::new);
+                // A fall by term, a fall by from, and repeats; then with an arrival number repeated.
+                let arrivals = batches::arrivals(&mut random, count);
+                let mut twice = arrivals.clone();
+                twice[at] = twice[at - 1];
+                let mut both = |falls: &[u32]| {
+                    for arrivals in [&arrivals, &twice] {
+                        let falls = batches::with_arrivals(falls, arrivals);
+                        compare::step(&mut steps, &mut card.clone(), &falls, &String::new);
+                    }
+                };
+                let mut falls = plain.clone();
+                falls.copy_within(place - PLAIN_WORDS..place, place);
+                both(&falls);
+                falls[place] = 2;
+                falls[place + 3] = TOP;
+                both(&falls);
+                falls[place + 2] = falls[place + 2].saturating_sub(1);
+                both(&falls);
+                falls[place + 1] = falls[place + 1].saturating_sub(1);
+                falls[place + 2] = TOP;
+                both(&falls);
             }
         }
         for missing in 1..=batch.len().min(8) {
@@ -275,32 +244,8 @@ fn step_with_bad_batches() {
     }
     steps.report("step_with_bad_batches");
     steps.expect(&[6], 10_000);
-    steps.expect(&[7, 0], 1_000);
+    steps.expect(&[7, 0, 14], 1_000);
     steps.expect(&[8], 200);
-}
-
-/// A good batch of exactly `count` records, with a few positions removed under every term.
-fn exactly(random: &mut Random, universe: &Universe, count: usize) -> Vec<u32> {
-    let annulments = random.below(2) * (count / 3).min(3);
-    let mut records = Vec::new();
-    for at in 0..count {
-        if at < annulments {
-            let position = universe.position(random);
-            let (from, to) = batches::or_empty(random, (position, position));
-            records.push(annulment(from, to));
-            continue;
-        }
-        let term = universe.term(random);
-        if random.chance(2, 3) {
-            records.push(addition(term, universe.position(random)));
-        } else {
-            let (from, to) = universe.removed_range(random);
-            records.push(removal(term, from, to));
-        }
-    }
-    let batch = batches::words(records);
-    assert_eq!(second::judge_batch(&batch), 0);
-    batch
 }
 
 /// A card with one place free, all its blocks full, in mid-pass.
@@ -320,72 +265,69 @@ fn second_full_card(random: &mut Random) -> Vec<u32> {
 fn step_with_the_longest_batches() {
     let mut random = Random::new(23);
     let mut steps = Steps::new();
-    let universe = Universe::wide(4000);
     for (b, n) in [(8, 4), (64, 100), (1024, 3)] {
         let card = match b {
             8 => second_full_card(&mut random),
             _ => cards::stepped(&mut random, b, n),
         };
-        let most = exactly(&mut random, &universe, 4096);
-        let same = batches::words(vec![addition(7, 7)]).repeat(4096);
-        let removing = batches::words(vec![removal(7, 7, TOP)]).repeat(4095);
-        let rising: Vec<u32> = (1..=4096).flat_map(|i| [1, 5, i * 9, i * 9]).collect();
-        let terms: Vec<u32> = (1..=4096).flat_map(|i| [1, i * 9, 5, 5]).collect();
-        let step = u32::MAX / 4096;
-        let annulling: Vec<u32> = (0..4096)
-            .flat_map(|i| [3, 0, i * step + 1, i * step + 9])
-            .collect();
-        for batch in [&most, &same, &removing, &rising, &terms, &annulling] {
+        for batch in &batches::longest(&mut random) {
             let step = |steps: &mut Steps, batch: &[u32]| {
                 compare::step(steps, &mut card.clone(), batch, &|| format!("B {b}, N {n}"))
             };
             step(&mut steps, batch);
-            let mut more = batch.clone();
-            more.extend_from_slice(&[1, TOP, TOP, TOP]);
+            let more = batches::with_a_last_record(batch);
             step(&mut steps, &more);
-            more.extend_from_slice(&[1, TOP, TOP, TOP]);
+            let more = batches::with_a_last_record(&more);
             step(&mut steps, &more);
-            for length in (16_370..=more.len()).rev().step_by(3) {
+            for length in (20_462..=more.len()).rev().step_by(3) {
                 step(&mut steps, &more[..length]);
             }
             // A fault in the last record alone, in the first alone, and a fall at the end.
-            for (word, value) in [(1, 0), (2, 0), (4, 3), (4, 0), (3, TOP)] {
+            for (field, value) in batches::LONGEST_FAULTS {
                 let mut bad = batch.clone();
-                let at = bad.len() - word;
-                bad[at] = value;
+                let last = bad.len() - RECORD_WORDS;
+                bad[last + field] = value;
                 step(&mut steps, &bad);
                 let mut bad = batch.clone();
-                bad[4 - word] = value;
+                bad[field] = value;
                 step(&mut steps, &bad);
             }
+            // The first arrival number again.
+            let mut bad = batch.clone();
+            let last = bad.len() - 1;
+            bad[last] = batch[4];
+            step(&mut steps, &bad);
         }
         // The last of many records is the one that matters.
-        let mut last = same[4..].to_vec();
-        last.extend_from_slice(&[1, 7, TOP, TOP]);
+        let many = |record, last| {
+            let mut records = vec![record; 4095];
+            records.push(last);
+            records
+        };
+        let pass = |steps: &mut Steps, card: &mut [u32], records: Vec<Record>| {
+            compare::pass(steps, card, &batches::words(records), &String::new);
+            second::live_pairs(card)
+        };
         let mut card = cards::fresh(&mut random, b, n);
-        compare::pass(&mut steps, &mut card, &last, &String::new);
-        assert_eq!(
-            second::live_pairs(&card),
-            BTreeSet::from([(7, 7), (7, TOP)])
-        );
-        let mut last = same[4..].to_vec();
-        last.extend_from_slice(&[2, 7, TOP, TOP]);
-        last[0] = 2;
-        compare::pass(&mut steps, &mut card, &last, &String::new);
-        assert_eq!(second::live_pairs(&card), BTreeSet::from([(7, 7)]));
+        let records = many(addition(7, 7), addition(7, TOP));
+        let index = pass(&mut steps, &mut card, records);
+        assert_eq!(index, BTreeSet::from([(7, 7), (7, TOP)]));
+        let mut records = many(addition(7, 7), removal(7, TOP, TOP));
+        records[0] = removal(7, 7, 7);
+        let index = pass(&mut steps, &mut card, records);
+        assert_eq!(index, BTreeSet::from([(7, 7)]));
         // So it is of removals under every term.
-        let mut last = annulment(8, 9).words().repeat(4095);
-        last.extend_from_slice(&[3, 0, TOP, TOP]);
-        compare::pass(&mut steps, &mut card, &[1, 9, TOP, TOP], &String::new);
-        compare::pass(&mut steps, &mut card, &last, &String::new);
-        assert_eq!(second::live_pairs(&card), BTreeSet::from([(7, 7)]));
-        compare::pass(&mut steps, &mut card, &removing, &String::new);
-        assert!(second::live_pairs(&card).is_empty());
-        compare::pass(&mut steps, &mut card, &[], &String::new);
+        pass(&mut steps, &mut card, vec![addition(9, TOP)]);
+        let records = many(annulment(8, 9), annulment(TOP, TOP));
+        let index = pass(&mut steps, &mut card, records);
+        assert_eq!(index, BTreeSet::from([(7, 7)]));
+        let index = pass(&mut steps, &mut card, vec![removal(7, 7, TOP); 4095]);
+        assert!(index.is_empty());
+        pass(&mut steps, &mut card, vec![]);
     }
     steps.report("step_with_the_longest_batches");
     steps.expect(&[0, 6], 50);
-    steps.expect(&[7, 8], 10);
+    steps.expect(&[7, 8, 14], 10);
 }
 
 /// Whole passes on cards of all shapes, some begun in mid-pass, until the pass finishes or 8 comes.
@@ -405,7 +347,7 @@ fn step_through_whole_passes() {
         let universe = Universe::random(&mut random);
         for _ in 0..3 {
             let most = random.pick(&[1, 3, 10, 60]);
-            let batch = any_batch(&mut random, &card, &universe, most);
+            let batch = batches::any(&mut random, &card, &universe, most);
             let from_the_start = Configuration::read(&card).new_length == 0;
             let number = compare::pass(&mut steps, &mut card, &batch, &|| format!("B {b}, N {n}"));
             assert!(number == 0 || number == 8);
@@ -430,27 +372,8 @@ fn step_through_whole_passes() {
 fn step_on_every_small_index() {
     let mut random = Random::new(25);
     let mut steps = Steps::new();
-    let positions = [1, 2, TOP];
-    let mut pairs: Vec<Pair> = Vec::new();
-    let mut records = Vec::new();
-    for term in [1, 2, TOP] {
-        for &from in &positions {
-            pairs.push((term, from));
-            records.push(addition(term, from).words());
-            for &to in &positions {
-                records.push(removal(term, from, to).words());
-            }
-        }
-    }
-    for &from in &positions {
-        records.extend(positions.iter().map(|&to| annulment(from, to).words()));
-    }
-    for chosen in 0..1usize << pairs.len() {
-        let set = pairs.iter().enumerate();
-        let set = set
-            .filter(|(i, _)| chosen >> i & 1 == 1)
-            .map(|(_, &pair)| pair);
-        let old = cards::packed(set, 8);
+    let records = batches::every_record_of_a_small_index();
+    for old in cards::every_small_index() {
         let n = (old.len() as u32 + 1 + random.below(3) as u32).max(2);
         let start = random.below(n as usize) as u32;
         let memory = cards::memory(&mut random, 8, n);
@@ -547,8 +470,9 @@ fn step_through_passes_of_removals() {
                 .map(|pair| pair.0)
                 .collect::<BTreeSet<u32>>()
                 .into_iter()
-                .flat_map(|term| removal(term, 1, TOP).words())
+                .flat_map(|term| [2, term, 1, TOP])
                 .collect();
+            let everything = batches::numbered(&everything);
             let answer = compare::step(&mut steps, &mut card, &everything, &String::new);
             assert_eq!((answer.number, answer.write, answer.finished), (0, 3, true));
         }
@@ -574,7 +498,7 @@ fn step_after_cuts_in_every_write() {
         let mut card = cards::any(&mut random, b, n);
         let universe = Universe::random(&mut random);
         let most = random.pick(&[3, 10, 24]);
-        let batch = any_batch(&mut random, &card, &universe, most);
+        let batch = batches::any(&mut random, &card, &universe, most);
         for _ in 0..12 {
             let Some((which, range)) = second::due_write(&card, &batch) else {
                 break;
@@ -596,7 +520,7 @@ fn step_after_cuts_in_every_write() {
                 }
                 let about = || format!("cut in write {which}, kind {kind}");
                 if random.chance(1, 4) {
-                    let other = any_batch(&mut random, &cut, &universe, 8);
+                    let other = batches::any(&mut random, &cut, &universe, 8);
                     compare::pass(&mut steps, &mut cut, &other, &about);
                 } else {
                     compare::pass(&mut steps, &mut cut, &batch, &about);
@@ -637,7 +561,7 @@ fn step_in_lists_against_the_history() {
         for _ in 0..120 {
             if random.chance(1, 9) {
                 let most = random.pick(&[2, 8, 24, 80]);
-                batch = any_batch(&mut random, &card, &universe, most);
+                batch = batches::any(&mut random, &card, &universe, most);
             }
             match random.below(12) {
                 0 => {
@@ -681,7 +605,7 @@ fn step_in_lists_against_the_history() {
     steps.report("step_in_lists_against_the_history");
     println!("step_in_lists_against_the_history: {cuts} cuts");
     steps.expect(&[0], 20_000);
-    steps.expect(&[6, 7, 8], 500);
+    steps.expect(&[6, 7, 8, 14], 500);
     steps.expect_every_shape(20);
 }
 
@@ -698,7 +622,7 @@ fn step_over_leftovers_in_the_due_place() {
         let mut card = cards::any(&mut random, b, n);
         let universe = Universe::random(&mut random);
         let most = random.pick(&[3, 10, 24]);
-        let batch = any_batch(&mut random, &card, &universe, most);
+        let batch = batches::any(&mut random, &card, &universe, most);
         for _ in 0..9 {
             let Some((which, _)) = second::due_write(&card, &batch) else {
                 break;
@@ -765,40 +689,14 @@ fn step_at_the_highest_terms_and_positions() {
     let mut steps = Steps::new();
     let mut boundary_at_top = 0u64;
     let mut highest = 0u64;
-    let universes = [
-        Universe {
-            terms: vec![TOP],
-            positions: (TOP - 20..=TOP).collect(),
-        },
-        Universe {
-            terms: (TOP - 5..=TOP).collect(),
-            positions: vec![TOP - 1, TOP],
-        },
-        Universe {
-            terms: (TOP - 9..=TOP).collect(),
-            positions: vec![TOP],
-        },
-        Universe {
-            terms: vec![1, 2, TOP - 1, TOP],
-            positions: vec![1, 2, 1 << 31, TOP - 2, TOP - 1, TOP],
-        },
-    ];
+    let universes = Universe::at_the_top();
     for round in 0..900 {
         let b = random.pick(&[8, 8, 9, 10, 13]);
         let n = random.within(2, 6);
         let universe = &universes[round % universes.len()];
         let mut card = cards::fresh(&mut random, b, n);
         if round % 16 == 0 {
-            // The boundary is the highest pair, or the last position of a term.
-            let last = random.pick(&[HIGHEST, (TOP, TOP - 1), (7, TOP), (TOP - 1, TOP)]);
-            let old: Vec<Vec<Pair>> = match last {
-                (TOP, TOP) => vec![],
-                (TOP, _) => vec![vec![HIGHEST]],
-                (term, _) => vec![vec![(term, 9), (term, TOP), (term + 1, 1)]],
-            };
-            let memory = cards::memory(&mut random, b, n.max(3));
-            card = cards::laid_out(memory, b, n.max(3), 1, &old, &[vec![(5, 5), last]]);
-            assert_eq!(second::judge(&card), 0);
+            card = cards::bounded_at_the_top(&mut random, b, n);
         }
         for _ in 0..3 {
             let mixture = Mixture::random(&mut random);
@@ -885,39 +783,14 @@ fn random_word_beside(card: &[u32], word: usize) -> u32 {
 fn step_on_cards_of_many_shapes() {
     let mut random = Random::new(32);
     let mut steps = Steps::new();
-    for (b, n) in [
-        (8, 2),
-        (8, 3),
-        (9, 2),
-        (10, 3),
-        (8, 100),
-        (8, 1024),
-        (9, 1023),
-        (1024, 2),
-        (1024, 3),
-        (1023, 4),
-        (1024, 9),
-        (64, 64),
-        (257, 20),
-        (16, 300),
-        (500, 12),
-    ] {
+    for (b, n) in cards::MANY_SHAPES {
         let room = b as usize * n as usize;
         let universe = Universe::wide(room.max(100));
-        let mut card = cards::fresh(&mut random, b, n);
-        if room > 2_000 {
-            // Well filled already, from any place on.
-            let live = n as usize - 1 - random.below(n as usize / 2);
-            let mut cursor = (0, 0);
-            let old = cards::segment(&mut random, b, live, &mut cursor, false);
-            let start = n - 1 - random.below(n as usize / 2) as u32;
-            card = cards::laid_out(card, b, n, start, &old, &[]);
-            assert_eq!(second::judge(&card), 0);
-        }
+        let mut card = cards::well_filled(&mut random, b, n);
         let most_steps = if room > 10_000 { 14 } else { 30 };
         for _ in 0..5 {
             let most = (room / 3).clamp(6, 2_000);
-            let batch = any_batch(&mut random, &card, &universe, most);
+            let batch = batches::any(&mut random, &card, &universe, most);
             for _ in 0..most_steps {
                 let about = || format!("B {b}, N {n}");
                 let answer = compare::step(&mut steps, &mut card, &batch, &about);
@@ -944,7 +817,7 @@ fn step_through_long_passes() {
         for part in [3, 8, 8] {
             let count = (b * n / part) as usize;
             let batch = if part == 3 {
-                exactly(&mut random, &universe, count)
+                batches::exactly(&mut random, &universe, count)
             } else {
                 batches::near(&mut random, &card, Mixture::Both, count)
             };
@@ -996,7 +869,7 @@ fn step_that_frees_hundreds_of_places() {
             assert_eq!(answer.write, write);
             assert_eq!(answer.freed, if write == 3 { old_count } else { 0 });
         }
-        compare::pass(&mut steps, &mut finishing, &[2, TOP, 1, TOP], &about);
+        compare::pass(&mut steps, &mut finishing, &[2, TOP, 1, TOP, 1], &about);
     }
     steps.report("step_that_frees_hundreds_of_places");
     assert!(steps.freed_several >= 3 && steps.nothing_remained >= 10);
@@ -1008,24 +881,18 @@ fn step_on_the_largest_card() {
     let mut random = Random::new(33);
     let mut steps = Steps::new();
     let (b, n) = (1024, 1024);
-    let block = |number: u32| -> Vec<Pair> {
-        // 341 entries of one position each, or fewer entries of several.
-        let several = 1 + number % 4;
-        let entries = 1024 / (2 + several);
-        (0..entries * several)
-            .map(|i| (number * 400 + i / several, TOP - 9 + i % several))
-            .collect()
-    };
     for (old_start, new_count, old_count) in [(900, 0, 1023), (1023, 1014, 7)] {
-        let new: Vec<Vec<Pair>> = (1..=new_count).map(block).collect();
-        let old: Vec<Vec<Pair>> = (new_count + 1..=new_count + old_count).map(block).collect();
+        let new: Vec<Vec<Pair>> = (1..=new_count).map(cards::large_block).collect();
+        let old: Vec<Vec<Pair>> = (new_count + 1..=new_count + old_count)
+            .map(cards::large_block)
+            .collect();
         let memory = random.words(cards::right_length(b, n));
         let mut card = cards::laid_out(memory, b, n, old_start, &old, &new);
         assert_eq!(second::judge(&card), 0);
         let about = || format!("{old_count} old blocks");
         let batch = if new_count == 0 {
             // A pair before the first block leaves no old block to be freed.
-            let stopped = compare::step(&mut steps, &mut card, &[1, 1, 1, 1], &about);
+            let stopped = compare::step(&mut steps, &mut card, &[1, 1, 1, 1, 1], &about);
             assert_eq!(stopped.number, 8);
             // Half of the first block goes.
             let records = old[0].iter().step_by(2).map(|pair| removal(pair.0, 1, TOP));

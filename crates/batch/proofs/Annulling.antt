@@ -26,7 +26,7 @@ starts-drop zero us = refl
 starts-drop (suc n) [] = refl
 starts-drop (suc n) (u ∷ us) = starts-drop n us
 
-pub start-at : (b : List ℕ) (n : ℕ) → n < length b / 4 → getD (starts (updates b)) n 0 ≡ rank (recordAt b n .term) (recordAt b n .from)
+pub start-at : (b : List ℕ) (n : ℕ) → n < length b / 5 → getD (starts (updates b)) n 0 ≡ rank (recordAt b n .term) (recordAt b n .from)
 unfolding starts
 start-at b n h =
     let e : getD (drop n (starts (updates b))) 0 0 ≡ getD (starts (updates b)) n 0 = getD-drop n (starts (updates b)) 0 0 ∙ rw (add-zero n) in

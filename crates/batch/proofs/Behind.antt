@@ -6,15 +6,16 @@ use mathlib.Core.Bool.{Bool, true, false, cond, _||_, not}
 use mathlib.Core.List.{List, [], _∷_}
 use lib.ListN.{length, drop, getD}
 use lib.Dec.{ltb, leb, eqb}
-use borrow.Author.Tests.{ltb-true, ltb-false, lt-ltb, leb-true, leb-false, le-leb, lt-leb, eqb-true, eqb-false, ne-eqb}
+use borrow.Author.Tests.{ltb-true, ltb-false, lt-ltb, le-ltb, leb-true, leb-false, le-leb, lt-leb, eqb-true, eqb-false, ne-eqb}
 use Rattle.pair.specs.Rank.{rank, term, position, Words}
 use Rattle.pair.proofs.Search.{Halved}
 use Rattle.batch.specs.declared.Cursor.{Cursor}
-use Rattle.batch.specs.Batch.{Update, updates, anyUpdate, covers, removes, adds, batchNumber}
+use Rattle.batch.specs.Batch.{Update, updates, anyUpdate, covers, removes, adds, latest, withdrawn, batchNumber}
 use Rattle.batch.specs.code.Rounds.{starts, roundReaches, stands, begun, reached}
 use Rattle.batch.specs.code.Search.{recordAt, startingTo, addedWith, addedOf, behind, passedTo, asked, Follows}
 use Rattle.batch.specs.code.Untouched.{highestPosition, beforeRecord, beforeRound, untouched, quietBefore}
 use Rattle.batch.proofs.Annulling.{rounds-few, begun-most, place-halved}
+use Rattle.batch.proofs.Arriving.{latest-none}
 use Rattle.batch.proofs.Decisions.{any-removes, rounds-reached, asked-facts}
 use Rattle.batch.proofs.InOrder.{inOrder, formed-updates}
 use Rattle.batch.proofs.Search.{passed-here}
@@ -25,14 +26,19 @@ pub record Untouched (us : List Update) (y : ℕ) : Type 0 where
   pub kept : anyUpdate (removes y) us ≡ false
   pub absent : anyUpdate (adds y) us ≡ false
 
+-- so it is not withdrawn
+pub untouched-stays : {us : List Update} {y : ℕ} → Untouched us y → withdrawn us y ≡ false
+unfolding withdrawn
+untouched-stays {us} {y} n = rw (latest-none (removes y) us (n .kept)) (le-ltb (latest (adds y) us) 0 (omega arith))
+
 -- a record that starts above a pair is not passed there, nor is one behind it
-starting-none : (b : List ℕ) (n y : ℕ) → (n < length b / 4 → y < rank (recordAt b n .term) (recordAt b n .from)) → startingTo y (drop n (updates b)) ≡ []
+starting-none : (b : List ℕ) (n y : ℕ) → (n < length b / 5 → y < rank (recordAt b n .term) (recordAt b n .from)) → startingTo y (drop n (updates b)) ≡ []
 unfolding startingTo
-starting-none b n y h = go (ltb n (length b / 4)) refl
+starting-none b n y h = go (ltb n (length b / 5)) refl
   where
-    go : (t : Bool) → ltb n (length b / 4) ≡ t → startingTo y (drop n (updates b)) ≡ []
-    go true e = let l = ltb-true n (length b / 4) e in rw (update-at b n l, lt-ltb y (rank (recordAt b n .term) (recordAt b n .from)) (h l))
-    go false e = rw (update-end b n (ltb-false n (length b / 4) e))
+    go : (t : Bool) → ltb n (length b / 5) ≡ t → startingTo y (drop n (updates b)) ≡ []
+    go true e = let l = ltb-true n (length b / 5) e in rw (update-at b n l, lt-ltb y (rank (recordAt b n .term) (recordAt b n .from)) (h l))
+    go false e = rw (update-end b n (ltb-false n (length b / 5) e))
 
 -- the last addition at or below a pair
 added-most : (us : List Update) (k x : ℕ) → k ≤ x → addedOf k (startingTo x us) ≤ x
@@ -70,7 +76,7 @@ module _ {b : List ℕ} {x : ℕ} {k : Cursor} (w : Words b) (f : Follows b x k)
   next = k .passed .next
 
   -- a pair behind the pair, with the next record starting above it: no further record is passed up to it
-  module _ (y : ℕ) (l : x < y) (ahead : next < length b / 4 → y < rank (recordAt b next .term) (recordAt b next .from)) where
+  module _ (y : ℕ) (l : x < y) (ahead : next < length b / 5 → y < rank (recordAt b next .term) (recordAt b next .from)) where
     asked-there : asked b y ≡ k .passed
     asked-there = sym (f .passes y (omega arith)) ∙ passed-here b (k .passed) y (starting-none b next y ahead)
 
@@ -86,18 +92,18 @@ module _ {b : List ℕ} {x : ℕ} {k : Cursor} (w : Words b) (f : Follows b x k)
     not-removed low = sym (asked-facts b y e (omega arith) .0) ∙ rw asked-there (lt-leb y (k .passed .reach) (omega arith))
 
   -- a pair of the same term up to where the next record starts
-  ahead-of : (y : ℕ) → x < y → term y ≡ term x → position y ≤ beforeRecord b next x → next < length b / 4 → y < rank (recordAt b next .term) (recordAt b next .from)
+  ahead-of : (y : ℕ) → x < y → term y ≡ term x → position y ≤ beforeRecord b next x → next < length b / 5 → y < rank (recordAt b next .term) (recordAt b next .from)
   unfolding beforeRecord Words
   ahead-of y l t z m =
       go (leb (rank (recordAt b next .term) (recordAt b next .from)) x) refl (eqb (recordAt b next .term) (term x)) refl
-      (rw (lt-leb (length b / 4) next m) at z)
+      (rw (lt-leb (length b / 5) next m) at z)
     where
       go : (r : Bool) → leb (rank (recordAt b next .term) (recordAt b next .from)) x ≡ r → (s : Bool) → eqb (recordAt b next .term) (term x) ≡ s →
           position y ≤ cond r 0 (cond s (recordAt b next .from - 1) highestPosition) → y < rank (recordAt b next .term) (recordAt b next .from)
       go true p s q n = absurd (omega arith)
       go false p true q n = omega (arith, leb-false (rank (recordAt b next .term) (recordAt b next .from)) x p, eqb-true (recordAt b next .term) (term x) q)
       go false p false q n =
-          omega (arith, leb-false (rank (recordAt b next .term) (recordAt b next .from)) x p, eqb-false (recordAt b next .term) (term x) q, w (next * 4 + 2))
+          omega (arith, leb-false (rank (recordAt b next .term) (recordAt b next .from)) x p, eqb-false (recordAt b next .term) (term x) q, w (next * 5 + 2))
 
   -- with no rounds none is annulled
   no-rounds : (y : ℕ) → eqb (length (roundReaches us)) 0 ≡ true → anyUpdate (covers 3 (position y)) us ≡ false
@@ -110,16 +116,16 @@ module _ {b : List ℕ} {x : ℕ} {k : Cursor} (w : Words b) (f : Follows b x k)
   -- of any term, before the next record
   pub quiet-behind : (y : ℕ) → x < y → y < quietBefore b (roundReaches us) k x → Untouched us y
   unfolding quietBefore
-  quiet-behind y l = go (eqb (length (roundReaches us)) 0) refl (leb x (k .passed .reach)) refl (leb (length b / 4) next) refl
+  quiet-behind y l = go (eqb (length (roundReaches us)) 0) refl (leb x (k .passed .reach)) refl (leb (length b / 5) next) refl
     where
-      is : eqb (length (roundReaches us)) 0 ≡ true → k .passed .reach < x → (next < length b / 4 → y < rank (recordAt b next .term) (recordAt b next .from)) → Untouched us y
+      is : eqb (length (roundReaches us)) 0 ≡ true → k .passed .reach < x → (next < length b / 5 → y < rank (recordAt b next .term) (recordAt b next .from)) → Untouched us y
       is r low a = record { kept = any-removes y us ∙ rw (not-removed y l a low, no-rounds y r); absent = not-added y l a }
 
-      go : (r : Bool) → eqb (length (roundReaches us)) 0 ≡ r → (s : Bool) → leb x (k .passed .reach) ≡ s → (t : Bool) → leb (length b / 4) next ≡ t →
+      go : (r : Bool) → eqb (length (roundReaches us)) 0 ≡ r → (s : Bool) → leb x (k .passed .reach) ≡ s → (t : Bool) → leb (length b / 5) next ≡ t →
           y < cond (not r) 0 (cond s 0 (cond t 18446744073709551615 (rank (recordAt b next .term) (recordAt b next .from)))) → Untouched us y
       go false p s q t i z = absurd (omega arith)
       go true p true q t i z = absurd (omega arith)
-      go true p false q true i z = is p (leb-false x (k .passed .reach) q) (λ n. absurd (omega (arith, leb-true (length b / 4) next i)))
+      go true p false q true i z = is p (leb-false x (k .passed .reach) q) (λ n. absurd (omega (arith, leb-true (length b / 5) next i)))
       go true p false q false i z = is p (leb-false x (k .passed .reach) q) (λ n. z)
 
   -- and up to where the next round starts
@@ -165,7 +171,7 @@ module _ {b : List ℕ} {x : ℕ} {k : Cursor} (w : Words b) (f : Follows b x k)
     unfolding untouched
     untouched-behind = go (leb x (k .passed .reach)) refl (eqb rounds 0) refl
       where
-        most : min rounds (length b / 4) ≡ rounds
+        most : min rounds (length b / 5) ≡ rounds
         most = omega (arith, rounds-few us 0, length-updates b)
 
         is : k .passed .reach < x → position y ≤ beforeRecord b next x → anyUpdate (covers 3 (position y)) us ≡ false → Untouched us y
@@ -174,7 +180,7 @@ module _ {b : List ℕ} {x : ℕ} {k : Cursor} (w : Words b) (f : Follows b x k)
             record { kept = any-removes y us ∙ rw (not-removed y l a low, n); absent = not-added y l a }
 
         go : (s : Bool) → leb x (k .passed .reach) ≡ s → (r : Bool) → eqb rounds 0 ≡ r →
-            position y ≤ cond s 0 (cond r (beforeRecord b next x) (beforeRound (starts us) (roundReaches us) (min rounds (length b / 4)) (k .begun) (position x) (beforeRecord b next x))) →
+            position y ≤ cond s 0 (cond r (beforeRecord b next x) (beforeRound (starts us) (roundReaches us) (min rounds (length b / 5)) (k .begun) (position x) (beforeRecord b next x))) →
             Untouched us y
         go true p r q z = absurd (omega arith)
         go false p true q z = is (leb-false x (k .passed .reach) p) z (no-rounds y q)

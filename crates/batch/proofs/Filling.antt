@@ -35,7 +35,7 @@ module _ {b l now : List ℕ} {reach n : ℕ} (f : Filling b l now reach n) wher
 
   -- one more of kind 3
   pub filling-turn :
-      n < length b / 4 → n ≢ length now → recordAt b n .kind ≡ 3 →
+      n < length b / 5 → n ≢ length now → recordAt b n .kind ≡ 3 →
       Filling b l (set now n (max reach (recordAt b n .to))) (max reach (recordAt b n .to)) (n + 1)
   filling-turn h i k =
       record {
@@ -70,10 +70,10 @@ module _ {b l now : List ℕ} {reach n : ℕ} (f : Filling b l now reach n) wher
       let n' : length all ≡ n = omega (arith, length-drop n all, ap length e, f .few) in
       (omega (arith, n', f .fits), f .written ∙ ap (sets l 0) (take-all n all (omega (arith, n'))))
 
-  pub filling-other : n < length b / 4 → recordAt b n .kind ≢ 3 → Filled
+  pub filling-other : n < length b / 5 → recordAt b n .kind ≢ 3 → Filled
   filling-other h k = ended (f .rest ∙ (unfold reachesFrom in rw (update-at b n h, ne-eqb (recordAt b n .kind) 3 k)))
 
-  pub filling-end : length b / 4 ≤ n → Filled
+  pub filling-end : length b / 5 ≤ n → Filled
   filling-end h = ended (f .rest ∙ (unfold reachesFrom in rw (update-end b n h)))
 
   -- and where the table is full

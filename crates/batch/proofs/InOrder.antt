@@ -1,43 +1,55 @@
 -- What a batch that is in order is made of.
 use Prim.Native.Nat.{ℕ, suc, _*_, _%_, _≤_, _<_}
-use mathlib.Core.Path.{_≡_, refl, sym, _∙_}
-use mathlib.Core.Bool.{Bool, true, false, cond, _||_, not, false≢true}
+use mathlib.Core.Path.{_≡_, refl, sym, ap, _∙_}
+use mathlib.Core.Bool.{Bool, true, false, cond, _&&_, _||_, not, and-true, false≢true}
 use mathlib.Core.List.{List, [], _∷_}
 use mathlib.Core.Logic.{_≢_, _⊎_, inl, inr}
 use lib.ListN.{length}
 use lib.Dec.{ltb, eqb}
 use native.Mathlib.Omega.{arith}
-use borrow.Author.Tests.{ltb-false, eqb-true, eqb-false, not-false}
+use borrow.Author.Tests.{ltb-false, lt-ltb, eqb-true, eqb-false, not-false}
 use Rattle.pair.specs.Rank.{rank, Words, Proper}
-use Rattle.pair.specs.Rising.{Each, risingFrom}
+use Rattle.pair.specs.Rising.{Each, keep, any, risingFrom}
+use Rattle.pair.specs.Tests.{firstOf}
+use Rattle.pair.proofs.Keep.{keep-same}
 use Rattle.pair.proofs.Tests.{and-left, and-right, or-left, or-right, or-cases}
 use Rattle.pair.proofs.Order.{proper-rank}
 use Rattle.pair.proofs.FirstOf.{passed}
-use Rattle.batch.specs.Batch.{Update, updates, anyUpdate, adds, applied, illFormed, falls, batchNumber}
+use Rattle.batch.specs.Batch.{Update, updates, anyUpdate, adds, removes, latest, withdrawn, applied, illFormed, falls, arrivals, illNumbered, batchNumber}
 use Rattle.batch.specs.code.Search.{UpdateWords}
-use Rattle.batch.proofs.Meaning.{added, Each-applied, rising-applied}
+use Rattle.repeat.specs.Repeats.{repeats}
+use Rattle.batch.proofs.Arriving.{latest-after, latest-none}
+use Rattle.batch.proofs.Meaning.{added, removed, Each-applied, rising-applied, withAdded-removals, added-removals}
 
 -- the facts behind the number 0
 pub record InOrder (b : List ℕ) : Type 0 where
-  pub whole : length b % 4 ≡ 0
-  pub few : length b ≤ 16384
+  pub whole : length b % 5 ≡ 0
+  pub few : length b ≤ 20480
   pub formed : anyUpdate illFormed (updates b) ≡ false
+  pub numbered : illNumbered (updates b) ≡ false
   pub ordered : falls 0 (updates b) ≡ false
 
 -- a batch with the number 0 is in order
 pub inOrder : (b : List ℕ) → batchNumber b ≡ 0 → InOrder b
 unfolding batchNumber
 inOrder b e =
-    let p = passed (not (eqb (length b % 4) 0)) 5 _ e in
-    let q = passed (ltb (4 * 4096) (length b)) 5 _ (p .1) in
+    let p = passed (not (eqb (length b % 5) 0)) 5 _ e in
+    let q = passed (ltb (5 * 4096) (length b)) 5 _ (p .1) in
     let r = passed (anyUpdate illFormed (updates b)) 5 _ (q .1) in
-    let s = passed (falls 0 (updates b)) 6 _ (r .1) in
+    let n = passed (illNumbered (updates b)) 13 _ (r .1) in
+    let s = passed (falls 0 (updates b)) 6 _ (n .1) in
     record {
-      whole = eqb-true (length b % 4) 0 (not-false (eqb (length b % 4) 0) (p .0));
-      few = ltb-false 16384 (length b) (q .0);
+      whole = eqb-true (length b % 5) 0 (not-false (eqb (length b % 5) 0) (p .0));
+      few = ltb-false 20480 (length b) (q .0);
       formed = r .0;
+      numbered = n .0;
       ordered = s .0;
     }
+
+-- so has one with no record
+pub empty-in-order : batchNumber [] ≡ 0
+unfolding batchNumber firstOf updates anyUpdate falls illNumbered arrivals any repeats
+empty-in-order = refl
 
 -- every update has the property
 abbrev pub EachUpdate : (Update → Type 0) → List Update → Type 0
@@ -93,13 +105,49 @@ words-updates [] w = tt
 words-updates (k ∷ []) w = tt
 words-updates (k ∷ t ∷ []) w = tt
 words-updates (k ∷ t ∷ a ∷ []) w = tt
-words-updates (k ∷ t ∷ a ∷ z ∷ ws) w =
-    (record { kindWord = w 0; termWord = w 1; fromWord = w 2; toWord = w 3 }, words-updates ws (λ i. w (suc (suc (suc (suc i))))))
+words-updates (k ∷ t ∷ a ∷ z ∷ []) w = tt
+words-updates (k ∷ t ∷ a ∷ z ∷ n ∷ ws) w =
+    (record { kindWord = w 0; termWord = w 1; fromWord = w 2; toWord = w 3; arrivalWord = w 4 }, words-updates ws (λ i. w (suc (suc (suc (suc (suc i)))))))
 
 -- the updates of a batch in order are well formed
 pub formed-updates : (b : List ℕ) → batchNumber b ≡ 0 → EachUpdate Formed (updates b)
 formed-updates b e =
     EachUpdate-imply (λ u. illFormed u ≡ false) Formed formed-facts (updates b) (EachUpdate-none illFormed (updates b) (inOrder b e .formed))
+
+-- and have arrival numbers
+pub numbered-updates : (b : List ℕ) → batchNumber b ≡ 0 → EachUpdate (λ u. 0 < u .arrival) (updates b)
+unfolding illNumbered any arrivals
+numbered-updates b e = go (updates b) (or-left (any (eqb 0) (arrivals (updates b))) (repeats (arrivals (updates b))) (inOrder b e .numbered))
+  where
+    go : (us : List Update) → any (eqb 0) (arrivals us) ≡ false → EachUpdate (λ u. 0 < u .arrival) us
+    go [] h = tt
+    go (u ∷ us) h =
+        let n = eqb-false 0 (u .arrival) (or-left (eqb 0 (u .arrival)) (any (eqb 0) (arrivals us)) h) in
+        (omega arith, go us (or-right (eqb 0 (u .arrival)) (any (eqb 0) (arrivals us)) h))
+
+-- so one arrived exactly where one passes the test
+pub latest-some : (f : Update → Bool) (us : List Update) → EachUpdate (λ u. 0 < u .arrival) us → ltb 0 (latest f us) ≡ anyUpdate f us
+unfolding anyUpdate
+latest-some f us n = latest-after f us 0 ∙ go us n
+  where
+    go : (us : List Update) → EachUpdate (λ u. 0 < u .arrival) us → anyUpdate (λ u. f u && ltb 0 (u .arrival)) us ≡ anyUpdate f us
+    go [] n = refl
+    go (u ∷ us) n = rw (lt-ltb 0 (u .arrival) (n .0), and-true (f u), go us (n .1))
+
+-- and a pair that no record adds is withdrawn exactly where one removes it
+pub withdrawn-removed : (b : List ℕ) (x : ℕ) → batchNumber b ≡ 0 → added (updates b) x ≡ false → withdrawn (updates b) x ≡ removed (updates b) x
+unfolding withdrawn added removed
+withdrawn-removed b x e h = rw (latest-none (adds x) (updates b) h) (latest-some (removes x) (updates b) (numbered-updates b e))
+
+-- so a batch of removals only keeps what it does not remove
+pub applied-removals :
+    (b s : List ℕ) → batchNumber b ≡ 0 → anyUpdate (λ u. eqb (u .kind) 1) (updates b) ≡ false →
+    applied (updates b) s ≡ keep (λ x. not (removed (updates b) x)) s
+unfolding applied
+applied-removals b s e h =
+    rw (withAdded-removals (updates b) s h)
+    (keep-same (λ x. not (withdrawn (updates b) x)) (λ x. not (removed (updates b) x))
+    (λ x. ap not (withdrawn-removed b x e (added-removals (updates b) x h))) s)
 
 -- what holds of the pair of each addition holds of every added pair
 pub added-Each : (P : ℕ → Type 0) (us : List Update) (x : ℕ) → EachUpdate (λ u. u .kind ≡ 1 → P (rank (u .term) (u .from))) us → added us x ≡ true → P x

@@ -1,5 +1,8 @@
 pub mod Annulling
+pub mod Any
+pub mod Arriving
 pub mod Claims
+pub mod Deciding
 pub mod Decisions
 pub mod EmptyRanges
 pub mod Filling
@@ -7,6 +10,7 @@ pub mod InOrder
 pub mod Local
 pub mod Meaning
 pub mod Merge
+pub mod Numbering
 pub mod Records
 pub mod Search
 pub mod Behind

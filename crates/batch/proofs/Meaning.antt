@@ -1,21 +1,21 @@
--- What a batch makes of a set: the set less everything removed, plus everything added.
+-- What a batch makes of a set: the set with everything added, less everything withdrawn.
 use Prim.Native.Nat.{ℕ, suc, _+_, _≤_, _<_}
 use native.Mathlib.Omega.{arith}
-use mathlib.Core.Path.{_≡_, refl, sym, ap, _∙_}
-use mathlib.Core.Bool.{Bool, true, false, cond, _&&_, _||_, not, or-assoc, and-true, and-comm}
+use mathlib.Core.Path.{_≡_, refl, sym, _∙_}
+use mathlib.Core.Bool.{Bool, true, false, cond, _&&_, _||_, not, or-assoc}
 use mathlib.Core.List.{List, [], _∷_}
 use mathlib.Core.Logic.{inl, inr}
 use lib.ListN.{length}
 use lib.Dec.{ltb, eqb}
 use borrow.Author.Tests.{eq-eqb}
 use Rattle.pair.specs.Rank.{rank}
-use Rattle.pair.specs.Rising.{Each, keep, risingFrom, insert}
+use Rattle.pair.specs.Rising.{Each, risingFrom, insert}
 use Rattle.pair.proofs.Tests.{and-both, or-left, or-right, or-intro}
 use Rattle.pair.proofs.Rising.{rises, rises-from, rises-keep, rises-insert, rises-rising}
 use Rattle.pair.proofs.Sets.{has, has-keep, has-insert, rises-ext, rising-Each}
-use Rattle.pair.proofs.Keep.{keep-same, keep-all}
+use Rattle.pair.proofs.Keep.{keep-all}
 use Rattle.pair.proofs.Each.{Each-all, Each-keep, Each-insert}
-use Rattle.batch.specs.Batch.{Update, anyUpdate, adds, removes, withdrawn, withAdded, applied}
+use Rattle.batch.specs.Batch.{Update, anyUpdate, adds, removes, latest, withdrawn, withAdded, applied}
 
 -- the batch adds the pair
 unfoldable pub added : List Update → ℕ → Bool
@@ -39,20 +39,10 @@ has-withAdded x (u ∷ us) s = go (eqb (u .kind) 1) (has-withAdded x us s)
     go true ih = has-insert x here (withAdded us s) ∙ rw ih (sym (or-assoc (eqb x here) (added us x) (has x s)))
     go false ih = ih
 
--- document 01's sentence for each pair: in the set afterwards are the added ones, and the old ones that are not removed
-pub has-applied : (x : ℕ) (us : List Update) (s : List ℕ) → has x (applied us s) ≡ (added us x || (has x s && not (removed us x)))
-unfolding applied withdrawn added removed
-has-applied x us s =
-    has-keep x (λ y. not (withdrawn us y)) (withAdded us s)
-    ∙ rw (has-withAdded x us s) (table (removed us x) (added us x) (has x s))
-  where
-    table : (r a h : Bool) → (not (r && not a) && (a || h)) ≡ (a || (h && not r))
-    table true true h = refl
-    table true false true = refl
-    table true false false = refl
-    table false true h = refl
-    table false false true = refl
-    table false false false = refl
+-- in the set afterwards are the added ones and the old ones that are not withdrawn
+pub has-applied : (x : ℕ) (us : List Update) (s : List ℕ) → has x (applied us s) ≡ (not (withdrawn us x) && (added us x || has x s))
+unfolding applied
+has-applied x us s = has-keep x (λ y. not (withdrawn us y)) (withAdded us s) ∙ rw (has-withAdded x us s)
 
 -- a batch leaves a rising list rising
 pub rises-withAdded : (us : List Update) (s : List ℕ) → rises s ≡ true → rises (withAdded us s) ≡ true
@@ -70,34 +60,19 @@ pub rises-applied : (us : List Update) (s : List ℕ) → rises s ≡ true → r
 unfolding applied
 rises-applied us s r = rises-keep (λ x. not (withdrawn us x)) (withAdded us s) (rises-withAdded us s r)
 
--- document 01's sentence for the whole set
-pub applied-sentence : (us : List Update) (s : List ℕ) → rises s ≡ true → applied us s ≡ withAdded us (keep (λ x. not (removed us x)) s)
-applied-sentence us s r =
-    rises-ext (applied us s) (withAdded us rest) (rises-applied us s r)
-    (rises-withAdded us rest (rises-keep (λ x. not (removed us x)) s r)) members
-  where
-    rest : List ℕ
-    rest = keep (λ x. not (removed us x)) s
-
-    members : (x : ℕ) → has x (applied us s) ≡ has x (withAdded us rest)
-    members x =
-        has-applied x us s
-        ∙ sym (has-withAdded x us rest ∙ rw (has-keep x (λ y. not (removed us y)) s, and-comm (not (removed us x)) (has x s)))
-
 -- applied twice is applied once
 pub applied-twice : (us : List Update) (s : List ℕ) → rises s ≡ true → applied us (applied us s) ≡ applied us s
 applied-twice us s r =
     rises-ext (applied us (applied us s)) (applied us s) (rises-applied us (applied us s) (rises-applied us s r))
     (rises-applied us s r) members
   where
-    table : (a h r : Bool) → (a || ((a || (h && not r)) && not r)) ≡ (a || (h && not r))
-    table true h r = refl
-    table false true true = refl
-    table false true false = refl
-    table false false r = refl
+    table : (w a h : Bool) → (not w && (a || (not w && (a || h)))) ≡ (not w && (a || h))
+    table true a h = refl
+    table false true h = refl
+    table false false h = refl
 
     members : (x : ℕ) → has x (applied us (applied us s)) ≡ has x (applied us s)
-    members x = has-applied x us (applied us s) ∙ rw (has-applied x us s) (table (added us x) (has x s) (removed us x))
+    members x = has-applied x us (applied us s) ∙ rw (has-applied x us s) (table (withdrawn us x) (added us x) (has x s))
 
 -- what holds of every added pair and of the set holds of the set afterwards
 pub Each-withAdded : (P : ℕ → Type 0) (us : List Update) (s : List ℕ) → ((x : ℕ) → added us x ≡ true → P x) → Each P s → Each P (withAdded us s)
@@ -127,7 +102,7 @@ rising-applied us s k f r =
 
 -- no update at all changes nothing
 pub applied-none : (s : List ℕ) → applied [] s ≡ s
-unfolding applied withAdded withdrawn anyUpdate
+unfolding applied withAdded withdrawn latest
 applied-none s = keep-all (λ x. not (withdrawn [] x)) s (Each-all (λ x. not (withdrawn [] x) ≡ true) (λ x. refl) s)
 
 -- a batch of removals only keeps what it does not remove
@@ -145,14 +120,6 @@ added-removals [] x h = refl
 added-removals (u ∷ us) x h =
     rw (or-left (eqb (u .kind) 1) (anyUpdate (λ v. eqb (v .kind) 1) us) h)
     (added-removals us x (or-right (eqb (u .kind) 1) (anyUpdate (λ v. eqb (v .kind) 1) us) h))
-
--- so the batch applied is what it does not remove
-pub applied-removals : (us : List Update) (s : List ℕ) → anyUpdate (λ u. eqb (u .kind) 1) us ≡ false → applied us s ≡ keep (λ x. not (removed us x)) s
-unfolding applied withdrawn added removed
-applied-removals us s h =
-    rw (withAdded-removals us s h)
-    (keep-same (λ x. not (withdrawn us x)) (λ x. not (removed us x))
-    (λ x. rw (added-removals us x h) (ap not (and-true (removed us x)))) s)
 
 insert-few : (n : ℕ) (xs : List ℕ) → length (insert n xs) ≤ suc (length xs)
 unfolding insert

@@ -7,15 +7,15 @@ ghost use lib.Dec.{leb, eqb};
 ghost use lib.ListN.{length, getD};
 ghost use lib.Seq.{sets};
 ghost use Rattle.batch.specs.Batch.{updates};
-ghost use Rattle.batch.specs.code.Rounds.{starts, roundReaches, halving, stands, begun, reached};
+ghost use Rattle.batch.specs.code.Rounds.{starts, roundReaches, halving, stands, begun, reached, annulsLater};
 ghost use Rattle.batch.specs.code.Untouched.{beforeRound};
 use crate::ANNULS;
 use crate::RECORD_WORDS;
 use crate::first_rank;
 use crate::record_at;
 
-// The greater of two positions.
-fn greater(a: u32, b: u32) -> u32
+// The greater of two words.
+pub(crate) fn greater(a: u32, b: u32) -> u32
     ensures { λ r. ⌜ r ≡ max a b ⌝ }
 {
     if a < b {
@@ -48,7 +48,7 @@ pub fn fill_reaches(batch: &[u32], reaches: &mut [u32]) -> usize
 
 // Where a record starts.
 fn start_at(batch: &[u32], n: usize) -> u64
-    requires { ⌜ n < length (now batch) / 4 ⌝ }
+    requires { ⌜ n < length (now batch) / 5 ⌝ }
     ensures { λ r. ⌜ r ≡ getD (starts (updates (now (batch .entry)))) n 0 ⌝ }
 {
     first_rank(record_at(batch, n))
@@ -56,7 +56,7 @@ fn start_at(batch: &[u32], n: usize) -> u64
 
 // How many of the first records start at or below a position, found by halving.
 fn halve(batch: &[u32], records: usize, position: u32) -> usize
-    requires { ⌜ records ≤ length (now batch) / 4 ⌝ }
+    requires { ⌜ records ≤ length (now batch) / 5 ⌝ }
     ensures { λ r. ⌜ r ≡ halving (starts (updates (now (batch .entry)))) position records 0 records ⌝ }
 {
     let mut low: usize = 0;
@@ -74,7 +74,7 @@ fn halve(batch: &[u32], records: usize, position: u32) -> usize
 
 // Whether the last of the first so many records starts at or below a position.
 fn starts_by(batch: &[u32], at: usize, position: u32) -> bool
-    requires { ⌜ at ≤ length (now batch) / 4 ⌝ }
+    requires { ⌜ at ≤ length (now batch) / 5 ⌝ }
     ensures { λ r. ⌜ r ≡ (eqb at 0 || leb (getD (starts (updates (now (batch .entry)))) (at - 1) 0) position) ⌝ }
 {
     if at == 0 {
@@ -85,7 +85,7 @@ fn starts_by(batch: &[u32], at: usize, position: u32) -> bool
 
 // Whether just so many of the first records start at or below a position, by the two records beside that place.
 fn stands(batch: &[u32], records: usize, at: usize, position: u32) -> bool
-    requires { ⌜ records ≤ length (now batch) / 4 ⌝ }
+    requires { ⌜ records ≤ length (now batch) / 5 ⌝ }
     ensures { λ r. ⌜ r ≡ stands (starts (updates (now (batch .entry)))) records at position ⌝ }
 {
     if records < at {
@@ -98,7 +98,7 @@ fn stands(batch: &[u32], records: usize, at: usize, position: u32) -> bool
     by & ((position as u64) < start_at(batch, at))
 }
 
-fn lesser(a: usize, b: usize) -> usize
+pub(crate) fn lesser(a: usize, b: usize) -> usize
     ensures { λ r. ⌜ r ≡ min a b ⌝ }
 {
     if b < a {
@@ -109,7 +109,7 @@ fn lesser(a: usize, b: usize) -> usize
 
 // How many of the first records start at or below a position; at is how many did at the last question.
 pub(crate) fn begun(batch: &[u32], records: usize, at: usize, position: u32) -> usize
-    ensures { λ r. ⌜ r ≡ begun (starts (updates (now (batch .entry)))) (min records (length (now (batch .entry)) / 4)) at position ⌝ }
+    ensures { λ r. ⌜ r ≡ begun (starts (updates (now (batch .entry)))) (min records (length (now (batch .entry)) / 5)) at position ⌝ }
 {
     let records = lesser(records, batch.len() / RECORD_WORDS);
     if stands(batch, records, at, position) {
@@ -136,9 +136,25 @@ pub(crate) fn reached(reaches: &[u32], begun: usize, position: u32) -> bool
     position <= reaches[begun - 1]
 }
 
+// Whether one of the first so many records reaches to a position and arrived after an addition.
+pub(crate) fn annuls_later(batch: &[u32], records: usize, position: u32, arrived: u32) -> bool
+    requires { ⌜ records ≤ length (now batch) / 5 ⌝ }
+    ensures { λ r. ⌜ r ≡ annulsLater (updates (now (batch .entry))) records position arrived ⌝ }
+{
+    let mut n: usize = 0;
+    while n < records {
+        let u = record_at(batch, n);
+        if (position <= u.to) & (arrived < u.arrival) {
+            return true;
+        }
+        n += 1;
+    }
+    false
+}
+
 // Up to which position, and to another at most, the rounds leave positions behind one: up to where the next of them starts; 0 where one reaches to it.
 pub(crate) fn before_round(batch: &[u32], reaches: &[u32], at: usize, position: u32, to: u32) -> u32
-    ensures { λ r. ⌜ r ≡ beforeRound (starts (updates (now (batch .entry)))) (now (reaches .entry)) (min (length (now (reaches .entry))) (length (now (batch .entry)) / 4)) at position to ⌝ }
+    ensures { λ r. ⌜ r ≡ beforeRound (starts (updates (now (batch .entry)))) (now (reaches .entry)) (min (length (now (reaches .entry))) (length (now (batch .entry)) / 5)) at position to ⌝ }
 {
     let records = lesser(reaches.len(), batch.len() / RECORD_WORDS);
     let begun = begun(batch, reaches.len(), at, position);

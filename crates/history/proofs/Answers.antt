@@ -27,7 +27,7 @@ use Rattle.history.proofs.Keeping.{Keeping, keeping-remains}
 
 batch-admitted : (b : List ℕ) → Admitted (batchNumber b)
 unfolding batchNumber Admitted
-batch-admitted b = firstOf-among Admitted refl _ (refl, (refl, (refl, (refl, tt))))
+batch-admitted b = firstOf-among Admitted refl _ (refl, (refl, (refl, (refl, (refl, tt)))))
 
 -- No step on a sound card gets 1 to 4.
 pub step-admitted : (c b : List ℕ) → judged c ≡ 0 → Admitted (step c b .number)

@@ -1,16 +1,10 @@
 -- With an empty batch number 8 never occurs on a sound card.
-use mathlib.Core.Path.{_≡_, refl}
 use mathlib.Core.List.{[]}
-use Rattle.pair.specs.Tests.{firstOf}
 use Rattle.card.proofs.Facts.{facts}
-use Rattle.batch.specs.Batch.{updates, anyUpdate, falls, batchNumber}
+use Rattle.batch.proofs.InOrder.{empty-in-order}
 use Rattle.update.proofs.Crowded.{empty-not-crowded}
 use Rattle.update.proofs.Steps.{accepting}
 use Rattle.history.specs.Claims.{EmptyNeverFull}
-
-pub empty-in-order : batchNumber [] ≡ 0
-unfolding batchNumber firstOf updates anyUpdate falls
-empty-in-order = refl
 
 pub emptyNeverFull : EmptyNeverFull
 unfolding EmptyNeverFull

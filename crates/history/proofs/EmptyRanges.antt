@@ -16,6 +16,6 @@ step-same c b d n e = rw (n, e)
 
 pub emptyRangeSameStep : EmptyRangeSameStep
 unfolding EmptyRangeSameStep EmptyRangeTakenOut
-emptyRangeSameStep c b d k t a z w n h e =
-    let o = emptyRangeTakenOut b d k t a z w n h e in
+emptyRangeSameStep c b d k t a z n w m h e =
+    let o = emptyRangeTakenOut b d k t a z n w m h e in
     step-same c _ _ (rw (e, o .0)) (sym (o .1 (live c)))

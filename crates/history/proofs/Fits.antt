@@ -10,6 +10,7 @@ use Rattle.pair.proofs.Tests.{cond-both}
 use Rattle.pair.proofs.Words.{words-nil}
 use Rattle.card.specs.Sound.{judged}
 use Rattle.batch.specs.Batch.{batchNumber}
+use Rattle.batch.proofs.InOrder.{empty-in-order}
 use Rattle.update.specs.Step.{stepNumber, step}
 use Rattle.update.specs.Pass.{Run, uncut}
 use Rattle.update.specs.Forecast.{limitOf, finishesOf, foreseen, outlook, forecast, foretold}
@@ -17,7 +18,7 @@ use Rattle.update.proofs.Agreement.{forecast-sound, forecast-agrees}
 use Rattle.update.proofs.Steps.{step-number}
 use Rattle.history.specs.History.{Event, stepped, after, AllOfWords, OfWords}
 use Rattle.history.specs.Claims.{Lends, Keeps, ran, ForecastAgrees, EmptyNeverFull, RemovalsNeverFull, EmptyFits, RemovalsFit}
-use Rattle.history.proofs.EmptyBatch.{empty-in-order, emptyNeverFull}
+use Rattle.history.proofs.EmptyBatch.{emptyNeverFull}
 use Rattle.history.proofs.Events.{keeping-stepped}
 use Rattle.history.proofs.Keeping.{itself, keeping-itself}
 use Rattle.history.proofs.Removals.{removalsNeverFull}

@@ -2,7 +2,7 @@
 use Prim.Native.Nat.{ℕ}
 use mathlib.Core.Path.{_≡_, refl, sym, _∙_, ap}
 use mathlib.Core.Bool.{Bool, true, false, cond, _&&_, _||_, not, false≢true, and-true, and-false}
-use mathlib.Core.List.{List, [], _∷_}
+use mathlib.Core.List.{List, [], _∷_, _++_}
 use mathlib.Core.Logic.{_⊎_, inl, inr}
 use native.Mathlib.Omega.{arith}
 use lib.Dec.{eqb}
@@ -20,7 +20,7 @@ use Rattle.card.proofs.Live.{live-rising}
 use Rattle.update.specs.Step.{stepNumber, taken, refused, step}
 use Rattle.update.proofs.Steps.{accepted, step-taken, step-refused}
 use Rattle.history.specs.History.{History, toWrite, landed, Event, stepped, cut, looked, restarted, formats, after, tells, told, AllOfWords}
-use Rattle.history.specs.Claims.{Lends, Keeps, ran, finishing, finished, KeptBatch}
+use Rattle.history.specs.Claims.{Lends, Keeps, ran, finishing, finished, KeptBatch, ResentBatch}
 use Rattle.history.proofs.Answers.{step-finishes}
 use Rattle.history.proofs.Events.{told-where, keeping-after}
 use Rattle.history.proofs.Keeping.{Keeping, itself, keeping-itself}
@@ -137,3 +137,30 @@ keptBatch c b es wc wb we s n l fin =
 
     r : risingFrom 0 (live c) ≡ true
     r = live-rising c f
+
+-- the first events alone
+keeps-first : (c b : List ℕ) (es fs : List Event) → Keeps c b (es ++ fs) → Keeps c b es
+unfolding Keeps
+keeps-first c b [] fs l = tt
+keeps-first c b (e ∷ es) fs l = (l .0, keeps-first (after c e) b es fs (l .1))
+
+words-first : (es fs : List Event) → AllOfWords (es ++ fs) → AllOfWords es
+unfolding AllOfWords
+words-first [] fs w = tt
+words-first (e ∷ es) fs w = (w .0, words-first es fs (w .1))
+
+finished-first : (c : List ℕ) (es fs : List Event) → finished c es ≡ true → finished c (es ++ fs) ≡ true
+unfolding finished
+finished-first c [] fs f = absurd (false≢true f)
+finished-first c (e ∷ es) fs f = go (finishing c e) f (finished-first (after c e) es fs)
+  where
+    go : (t : Bool) → (t || finished (after c e) es) ≡ true → (finished (after c e) es ≡ true → finished (after c e) (es ++ fs) ≡ true) →
+        (t || finished (after c e) (es ++ fs)) ≡ true
+    go true g rest = refl
+    go false g rest = rest g
+
+pub resentBatch : ResentBatch
+unfolding ResentBatch KeptBatch
+resentBatch c b es fs wc wb we s n l f =
+    keptBatch c b (es ++ fs) wc wb we s n l (finished-first c es fs f)
+    ∙ sym (keptBatch c b es wc wb (words-first es fs we) s n (keeps-first c b es fs l) f)

@@ -73,4 +73,4 @@ never c b k (e ∷ es) s w n o h l =
 pub removalsNeverFull : RemovalsNeverFull
 unfolding RemovalsNeverFull freePlaces
 removalsNeverFull c b es wc wb we j n o two l =
-    never c b (itself c) es (keeping-itself c wc j) we n o (inl (rw (length-around (placeCount c) _ (oldLength c)) (omega arith))) l
+    never c b (itself c) es (keeping-itself c wc j) we n (n, o) (inl (rw (length-around (placeCount c) _ (oldLength c)) (omega arith))) l

@@ -10,7 +10,8 @@ use Rattle.pair.specs.Tests.{firstOf}
 use Rattle.block.specs.Block.{zeros, pairsFrom, pairs, formedFrom, formed, fitting, due, goesOn}
 use Rattle.card.specs.Layout.{widthOf, firstPair, place, around, pairsAt, live, boundary, oldPlaces, newPlaces}
 use Rattle.card.specs.Sound.{blocksSound, firstReaches, boundaryAgrees, segmentsSound, judged}
-use Rattle.batch.specs.Batch.{updates, anyUpdate, adds, removes, withdrawn, withAdded, applied, illFormed, falls, batchNumber}
+use Rattle.repeat.specs.Repeats.{repeats}
+use Rattle.batch.specs.Batch.{updates, anyUpdate, adds, removes, latest, withdrawn, withAdded, applied, illFormed, falls, arrivals, illNumbered, batchNumber}
 use Rattle.update.specs.Step.{remains, spent, nextBoundary, freed, grown, crowded, stepNumber}
 use Rattle.found.specs.Found.{mappedTo, span, blocksRead, holders, questionNumber}
 use Rattle.history.specs.Claims.{freePlaces}
@@ -26,7 +27,7 @@ narrow =
 
 -- the batch that removes (1,6)
 abbrev pub removesLast : List ℕ
-removesLast = 2 ∷ 1 ∷ 6 ∷ 6 ∷ []
+removesLast = 2 ∷ 1 ∷ 6 ∷ 6 ∷ 1 ∷ []
 
 pub record MeetsEight (c b : List ℕ) : Type 0 where
   pub sound : judged c ≡ 0
@@ -37,7 +38,7 @@ pub record MeetsEight (c b : List ℕ) : Type 0 where
 
 -- two free places are needed: with one, a removal can meet number 8
 pub two-places-needed : MeetsEight narrow removesLast
-unfolding keep above risingFrom last any firstOf insert zeros pairsFrom pairs formedFrom formed fitting due goesOn widthOf firstPair place around pairsAt live blocksSound firstReaches boundaryAgrees segmentsSound judged updates anyUpdate adds removes withdrawn withAdded applied illFormed falls batchNumber remains spent nextBoundary freed grown crowded stepNumber freePlaces
+unfolding keep above risingFrom last any firstOf insert zeros pairsFrom pairs formedFrom formed fitting due goesOn widthOf firstPair place around pairsAt live blocksSound firstReaches boundaryAgrees segmentsSound judged updates anyUpdate adds removes latest withdrawn withAdded applied illFormed falls arrivals illNumbered repeats batchNumber remains spent nextBoundary freed grown crowded stepNumber freePlaces
 two-places-needed = record { sound = refl; inOrder = refl; removals = refl; oneFree = refl; number = refl }
 
 -- a sound card in mid-pass: the old block has (1,1) and (1,2), the new one (1,1)

@@ -61,21 +61,25 @@ allSeen (r ∷ rs) = seen (r .0) (r .1) && allSeen rs
 unfoldable pub fresh : ℕ → List ℕ
 fresh n = formatted (replicate (cardLength (widthOf 1) 8 n) 0) 8 n
 
--- the batches: P1's additions (5,2), (5,9), (7,4); the later ones
+-- the batches, their records numbered as they arrived: P1's additions (5,2), (5,9), (7,4); the later ones
 abbrev pub three : List ℕ
-three = 1 ∷ 5 ∷ 2 ∷ 2 ∷ 1 ∷ 5 ∷ 9 ∷ 9 ∷ 1 ∷ 7 ∷ 4 ∷ 4 ∷ []
+three = 1 ∷ 5 ∷ 2 ∷ 2 ∷ 1 ∷ 1 ∷ 5 ∷ 9 ∷ 9 ∷ 2 ∷ 1 ∷ 7 ∷ 4 ∷ 4 ∷ 3 ∷ []
 
 abbrev pub addSevenEleven : List ℕ
-addSevenEleven = 1 ∷ 7 ∷ 11 ∷ 11 ∷ []
+addSevenEleven = 1 ∷ 7 ∷ 11 ∷ 11 ∷ 1 ∷ []
 
 abbrev pub addEightOne : List ℕ
-addEightOne = 1 ∷ 8 ∷ 1 ∷ 1 ∷ []
+addEightOne = 1 ∷ 8 ∷ 1 ∷ 1 ∷ 1 ∷ []
 
-abbrev pub removeAndAdd : List ℕ
-removeAndAdd = 2 ∷ 5 ∷ 2 ∷ 9 ∷ 1 ∷ 5 ∷ 9 ∷ 9 ∷ []
+-- the removal arrived first, and the addition did
+abbrev pub removeThenAdd : List ℕ
+removeThenAdd = 2 ∷ 5 ∷ 2 ∷ 9 ∷ 1 ∷ 1 ∷ 5 ∷ 9 ∷ 9 ∷ 2 ∷ []
+
+abbrev pub addThenRemove : List ℕ
+addThenRemove = 2 ∷ 5 ∷ 2 ∷ 9 ∷ 2 ∷ 1 ∷ 5 ∷ 9 ∷ 9 ∷ 1 ∷ []
 
 abbrev pub removeBoth : List ℕ
-removeBoth = 2 ∷ 5 ∷ 1 ∷ 4294967295 ∷ 2 ∷ 7 ∷ 1 ∷ 4294967295 ∷ []
+removeBoth = 2 ∷ 5 ∷ 1 ∷ 4294967295 ∷ 1 ∷ 2 ∷ 7 ∷ 1 ∷ 4294967295 ∷ 2 ∷ []
 
 -- P1's card with n places
 unfoldable pub first : ℕ → List ℕ
@@ -114,9 +118,11 @@ table =
     ∷ (afterSteps 3 addEightOne (first 2), refuses addEightOne 8)
     ∷ (afterSteps 3 addEightOne (first 2), makes [] ((3, 0, 1) ∷ []))
     ∷ (afterSteps 1 [] (afterSteps 3 addEightOne (first 2)), configuration (1 ∷ 8 ∷ 2 ∷ 1 ∷ 1 ∷ 0 ∷ 0 ∷ 0 ∷ []))
-    -- P5
-    ∷ (first 4, makes removeAndAdd (threeWrites 1 1))
-    ∷ (afterSteps 3 removeAndAdd (first 4), index (rank 5 9 ∷ rank 7 4 ∷ []))
+    -- P5, in both orders of arrival
+    ∷ (first 4, makes removeThenAdd (threeWrites 1 1))
+    ∷ (afterSteps 3 removeThenAdd (first 4), index (rank 5 9 ∷ rank 7 4 ∷ []))
+    ∷ (first 4, makes addThenRemove (threeWrites 1 1))
+    ∷ (afterSteps 3 addThenRemove (first 4), index (rank 7 4 ∷ []))
     -- P6
     ∷ (first 4, makes removeBoth ((3, 1, 1) ∷ []))
     ∷ (afterSteps 1 removeBoth (first 4), configuration (1 ∷ 8 ∷ 4 ∷ 1 ∷ 0 ∷ 0 ∷ 0 ∷ 0 ∷ []))

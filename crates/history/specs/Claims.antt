@@ -75,8 +75,8 @@ RemovalsFit =
 -- a removal whose from is above its to, in a batch in order: on every card a step is the one without it
 unfoldable pub EmptyRangeSameStep : Type 0
 EmptyRangeSameStep =
-    (c b d : List ℕ) (k t a z : ℕ) → length b % recordWords ≡ 0 → k ≢ 1 → z < a → batchNumber (b ++ k ∷ t ∷ a ∷ z ∷ d) ≡ 0 →
-    step c (b ++ k ∷ t ∷ a ∷ z ∷ d) ≡ step c (b ++ d)
+    (c b d : List ℕ) (k t a z n : ℕ) → length b % recordWords ≡ 0 → k ≢ 1 → z < a → batchNumber (b ++ k ∷ t ∷ a ∷ z ∷ n ∷ d) ≡ 0 →
+    step c (b ++ k ∷ t ∷ a ∷ z ∷ n ∷ d) ≡ step c (b ++ d)
 
 -- the event is a configuration write that finishes the pass, and it lands
 unfoldable pub finishing : List ℕ → Event → Bool
@@ -96,6 +96,12 @@ unfoldable pub KeptBatch : Type 0
 KeptBatch =
     (c b : List ℕ) (es : List Event) → Words c → Words b → AllOfWords es → judged c ≡ 0 → newLength c ≡ 0 → Keeps c b es →
     finished c es ≡ true → live (ran c es) ≡ applied (updates b) (live c)
+
+-- resent right after it, whole or in part, such a batch changes nothing: after every further event that lends no other batch the index is the same
+unfoldable pub ResentBatch : Type 0
+ResentBatch =
+    (c b : List ℕ) (es fs : List Event) → Words c → Words b → AllOfWords (es ++ fs) → judged c ≡ 0 → newLength c ≡ 0 → Keeps c b (es ++ fs) →
+    finished c es ≡ true → live (ran c (es ++ fs)) ≡ live (ran c es)
 
 -- the blocks read are at most two more than the blocks that hold a live posting in range
 unfoldable pub BlocksReadBound : Type 0

@@ -20,8 +20,9 @@ use Rattle.sort.proofs.Records.{Wide, laid-length, records-laid, sorted-wide, s
 use Rattle.lines.specs.declared.Gathered.{Gathered}
 use Rattle.lines.specs.Lines.{letterA, letterR, lines, fields, recordOf, lineRecord, lineNumber, faultFrom, fault, lineRecords, batchOf, scoresNumber, scored}
 use Rattle.lines.specs.code.Gathering.{Gathers, Answers}
+use Rattle.lines.proofs.Numbered.{numbered-length, numbered-wide}
 
--- a record has four words
+-- a line says four words
 four : (s : Bool) (r : List ℕ) → length r ≡ 4 → length (cond s r []) ≢ 0 → length (cond s r []) ≡ 4
 four true r e n = e
 four false r e n = absurd (n refl)
@@ -52,24 +53,24 @@ lines-wide i (l ∷ ls) e = go (lines-wide (suc i) ls) (eqb (lineNumber i l) 0) 
     go ih true t e = (numberless i l (eqb-true (lineNumber i l) 0 t), ih e)
     go ih false t e = absurd (eqb-false (lineNumber i l) 0 t e)
 
-pub records-wide : (bytes : List ℕ) → fault bytes .number ≡ 0 → Wide 4 (lineRecords bytes)
+pub records-wide : (bytes : List ℕ) → fault bytes .number ≡ 0 → Wide 5 (lineRecords bytes)
 unfolding fault lineRecords
-records-wide bytes e = lines-wide 0 (lines bytes) e
+records-wide bytes e = numbered-wide 1 (map lineRecord (lines bytes)) (lines-wide 0 (lines bytes) e)
 
 -- the records of the lines end to end, sorted, are the batch
-sorted-batch : (bytes : List ℕ) → Wide 4 (lineRecords bytes) → sortedWords 4 1 (laid (lineRecords bytes)) ≡ batchOf bytes
+sorted-batch : (bytes : List ℕ) → Wide 5 (lineRecords bytes) → sortedWords 5 1 (laid (lineRecords bytes)) ≡ batchOf bytes
 unfolding sortedWords batchOf records
 sorted-batch bytes w =
     let rs = lineRecords bytes in
-    let long = laid-length 4 rs w in
-    let many : length (laid rs) / 4 ≡ length rs = omega (arith, long) in
-    rw many (ap (λ l. laid (sorted (keyAt 1) l)) (ap (λ l. recordsFrom 4 l 0 (length rs)) (sym (append-nil (laid rs))) ∙ records-laid 4 rs [] w))
+    let long = laid-length 5 rs w in
+    let many : length (laid rs) / 5 ≡ length rs = omega (arith, long) in
+    rw many (ap (λ l. laid (sorted (keyAt 1) l)) (ap (λ l. recordsFrom 5 l 0 (length rs)) (sym (append-nil (laid rs))) ∙ records-laid 5 rs [] w))
 
-pub batch-length : (bytes : List ℕ) → Wide 4 (lineRecords bytes) → length (batchOf bytes) ≡ 4 * length (lineRecords bytes)
+pub batch-length : (bytes : List ℕ) → Wide 5 (lineRecords bytes) → length (batchOf bytes) ≡ 5 * length (lineRecords bytes)
 unfolding batchOf
 batch-length bytes w =
     let rs = lineRecords bytes in
-    laid-length 4 (sorted (keyAt 1) rs) (sorted-wide (keyAt 1) 4 rs w) ∙ ap (λ n. 4 * n) (sorted-length (keyAt 1) rs)
+    laid-length 5 (sorted (keyAt 1) rs) (sorted-wide (keyAt 1) 5 rs w) ∙ ap (λ n. 5 * n) (sorted-length (keyAt 1) rs)
 
 -- without a number there is no line
 quiet-from : (i : ℕ) (ls : List (List ℕ)) → faultFrom i ls .number ≡ 0 → faultFrom i ls .line ≡ 0
@@ -118,66 +119,66 @@ first-words rs l n e h = ap (take n) (sets-eq (laid rs) l 0 (omega (arith, e, h)
 
 pub records-many : (bytes : List ℕ) → length (lineRecords bytes) ≡ length (lines bytes)
 unfolding lineRecords
-records-many bytes = length-map (lines bytes) lineRecord
+records-many bytes = numbered-length 1 (map lineRecord (lines bytes)) ∙ length-map (lines bytes) lineRecord
 
--- whole records of four words with their key at word 1 are sorted where the other memory is as long
-whole-sortable : (ws batch : List ℕ) (n : ℕ) → length ws ≡ 4 * n → sortable 4 1 ws batch ≡ leb (length ws) (length batch)
+-- whole records of five words with their key at word 1 are sorted where the other memory is as long
+whole-sortable : (ws batch : List ℕ) (n : ℕ) → length ws ≡ 5 * n → sortable 5 1 ws batch ≡ leb (length ws) (length batch)
 unfolding sortable
-whole-sortable ws batch n e = let z : length ws % 4 ≡ 0 = omega (arith, e) in rw (eq-eqb (length ws % 4) 0 z)
+whole-sortable ws batch n e = let z : length ws % 5 ≡ 0 = omega (arith, e) in rw (eq-eqb (length ws % 5) 0 z)
 
 sort-done :
-    (ws batch : List ℕ) (n : ℕ) → length ws ≡ 4 * n → true ≡ sort 4 1 ws batch .done →
-    (length ws ≤ length batch) × (sort 4 1 ws batch .work ≡ sets batch 0 (sortedWords 4 1 ws))
-sort-done ws batch n e d = go (sortable 4 1 ws batch) refl
+    (ws batch : List ℕ) (n : ℕ) → length ws ≡ 5 * n → true ≡ sort 5 1 ws batch .done →
+    (length ws ≤ length batch) × (sort 5 1 ws batch .work ≡ sets batch 0 (sortedWords 5 1 ws))
+sort-done ws batch n e d = go (sortable 5 1 ws batch) refl
   where
-    go : (t : Bool) → sortable 4 1 ws batch ≡ t → (length ws ≤ length batch) × (sort 4 1 ws batch .work ≡ sets batch 0 (sortedWords 4 1 ws))
-    go true k = (leb-true (length ws) (length batch) (sym (whole-sortable ws batch n e) ∙ k), sym (done 4 1 ws batch k .1 .1))
-    go false k = contradiction (sort 4 1 ws batch .done) (sym d) (sym (refused 4 1 ws batch k .0))
+    go : (t : Bool) → sortable 5 1 ws batch ≡ t → (length ws ≤ length batch) × (sort 5 1 ws batch .work ≡ sets batch 0 (sortedWords 5 1 ws))
+    go true k = (leb-true (length ws) (length batch) (sym (whole-sortable ws batch n e) ∙ k), sym (done 5 1 ws batch k .1 .1))
+    go false k = contradiction (sort 5 1 ws batch .done) (sym d) (sym (refused 5 1 ws batch k .0))
 
 sort-refused :
-    (ws batch : List ℕ) (n : ℕ) → length ws ≡ 4 * n → false ≡ sort 4 1 ws batch .done → (length batch < length ws) × (sort 4 1 ws batch .work ≡ batch)
-sort-refused ws batch n e d = go (sortable 4 1 ws batch) refl
+    (ws batch : List ℕ) (n : ℕ) → length ws ≡ 5 * n → false ≡ sort 5 1 ws batch .done → (length batch < length ws) × (sort 5 1 ws batch .work ≡ batch)
+sort-refused ws batch n e d = go (sortable 5 1 ws batch) refl
   where
-    go : (t : Bool) → sortable 4 1 ws batch ≡ t → (length batch < length ws) × (sort 4 1 ws batch .work ≡ batch)
-    go true k = contradiction (sort 4 1 ws batch .done) (sym (done 4 1 ws batch k .0)) (sym d)
-    go false k = (leb-false (length ws) (length batch) (sym (whole-sortable ws batch n e) ∙ k), sym (refused 4 1 ws batch k .1 .1))
+    go : (t : Bool) → sortable 5 1 ws batch ≡ t → (length batch < length ws) × (sort 5 1 ws batch .work ≡ batch)
+    go true k = contradiction (sort 5 1 ws batch .done) (sym (done 5 1 ws batch k .0)) (sym d)
+    go false k = (leb-false (length ws) (length batch) (sym (whole-sortable ws batch n e) ∙ k), sym (refused 5 1 ws batch k .1 .1))
 
 -- what the sort answers of the records gathered
 module _
-    (bytes batch l : List ℕ) {g : Gathered} {now : List ℕ} (a : Gathers bytes l g now) (none : g .number ≡ 0) (room : length l ≡ 4 * recordsMost)
+    (bytes batch l : List ℕ) {g : Gathered} {now : List ℕ} (a : Gathers bytes l g now) (none : g .number ≡ 0) (room : length l ≡ 5 * recordsMost)
   where
     abbrev ws : List ℕ
-    ws = take (4 * g .count) now
+    ws = take (5 * g .count) now
 
-    wide : Wide 4 (lineRecords bytes)
+    wide : Wide 5 (lineRecords bytes)
     wide = records-wide bytes (sym (a .ofNumber) ∙ none)
 
     quiet : fault bytes .line ≡ 0
     quiet = quiet-none bytes (sym (a .ofNumber) ∙ none)
 
-    long : length (laid (lineRecords bytes)) ≡ 4 * g .count
-    long = laid-length 4 (lineRecords bytes) wide ∙ ap (λ n. 4 * n) (records-many bytes ∙ sym (a .many none))
+    long : length (laid (lineRecords bytes)) ≡ 5 * g .count
+    long = laid-length 5 (lineRecords bytes) wide ∙ ap (λ n. 5 * n) (records-many bytes ∙ sym (a .many none))
 
     words-laid : ws ≡ laid (lineRecords bytes)
-    words-laid = ap (take (4 * g .count)) (a .stand none) ∙ first-words (lineRecords bytes) l (4 * g .count) long (omega (arith, room, a .few))
+    words-laid = ap (take (5 * g .count)) (a .stand none) ∙ first-words (lineRecords bytes) l (5 * g .count) long (omega (arith, room, a .few))
 
-    pub words-length : length ws ≡ 4 * g .count
+    pub words-length : length ws ≡ 5 * g .count
     words-length = ap length words-laid ∙ long
 
-    batch-long : length (batchOf bytes) ≡ 4 * g .count
-    batch-long = batch-length bytes wide ∙ ap (λ n. 4 * n) (records-many bytes ∙ sym (a .many none))
+    batch-long : length (batchOf bytes) ≡ 5 * g .count
+    batch-long = batch-length bytes wide ∙ ap (λ n. 5 * n) (records-many bytes ∙ sym (a .many none))
 
     pub answers-unsorted :
-        {after : List ℕ} → false ≡ sort 4 1 ws batch .done → after ≡ sort 4 1 ws batch .work →
+        {after : List ℕ} → false ≡ sort 5 1 ws batch .done → after ≡ sort 5 1 ws batch .work →
         Answers (scored bytes batch) (record { number = 10; words = 0; line = 0 }) after
     answers-unsorted d e =
         let r = sort-refused ws batch (g .count) words-length d in
         rw (e ∙ r .1) (answers-short bytes batch (sym (a .ofNumber) ∙ none) quiet (omega (arith, r .0, words-length, batch-long)))
 
     pub answers-sorted :
-        {after : List ℕ} → true ≡ sort 4 1 ws batch .done → after ≡ sort 4 1 ws batch .work →
-        Answers (scored bytes batch) (record { number = 0; words = 4 * g .count; line = 0 }) after
+        {after : List ℕ} → true ≡ sort 5 1 ws batch .done → after ≡ sort 5 1 ws batch .work →
+        Answers (scored bytes batch) (record { number = 0; words = 5 * g .count; line = 0 }) after
     answers-sorted d e =
         let r = sort-done ws batch (g .count) words-length d in
         answers-read bytes batch (sym (a .ofNumber) ∙ none) quiet (omega (arith, r .0, words-length, batch-long)) (sym batch-long)
-        (e ∙ r .1 ∙ ap (sets batch 0) (ap (sortedWords 4 1) words-laid ∙ sorted-batch bytes wide))
+        (e ∙ r .1 ∙ ap (sets batch 0) (ap (sortedWords 5 1) words-laid ∙ sorted-batch bytes wide))

@@ -14,18 +14,19 @@ use Rattle.batch.specs.Batch.{recordsMost}
 use Rattle.sort.specs.Sort.{laid}
 use Rattle.sort.proofs.Records.{Wide, wide-one, laid-length, laid-one, laid-append}
 use Rattle.lines.specs.declared.line.Record.{Record}
-use Rattle.lines.specs.Lines.{lineFeed, lines, lineRecord, lineNumber, faultFrom, fault, lineRecords}
+use Rattle.lines.specs.Lines.{lineFeed, lines, lineRecord, lineNumber, faultFrom, fault, numbered, lineRecords}
 use Rattle.lines.specs.code.Gathering.{before, wordsOf, Gathers}
+use Rattle.lines.proofs.Numbered.{numbered-next, numbered-length}
 use Rattle.lines.proofs.Splitting.{lines-next}
 
 -- the records of count lines stand in the memory, and those from byte at on are left
 pub record Gathering (bytes l now : List ℕ) (count at : ℕ) : Type 0 where
   pub few : count ≤ recordsMost
   pub done : List (List ℕ)
-  pub wide : Wide 4 done
+  pub wide : Wide 5 done
   pub many : length done ≡ count
   pub same : now ≡ sets l 0 (laid done)
-  pub rest : lineRecords bytes ≡ done ++ map lineRecord (lines (drop at bytes))
+  pub rest : lineRecords bytes ≡ done ++ numbered (count + 1) (map lineRecord (lines (drop at bytes)))
   pub faults : fault bytes ≡ faultFrom count (lines (drop at bytes))
 
 pub gathering-start : (bytes l : List ℕ) → Gathering bytes l l 0 0
@@ -111,37 +112,40 @@ module _ {bytes l now : List ℕ} {count at end : ℕ} (u : Record) (g : Gatheri
   gathering-many n m = faulty 12 (rw m (number-many line (some-words n)))
 
   pub gathering-turn :
-      {after : List ℕ} → u .kind ≢ 0 → count ≢ recordsMost → after ≡ sets now (4 * count) (u .kind ∷ u .term ∷ u .from ∷ u .to ∷ []) →
+      {after : List ℕ} → u .kind ≢ 0 → count ≢ recordsMost → after ≡ sets now (5 * count) (u .kind ∷ u .term ∷ u .from ∷ u .to ∷ (count + 1) ∷ []) →
       Gathering bytes l after (count + 1) (end + 1)
   gathering-turn {after} n m a =
-      let r = u .kind ∷ u .term ∷ u .from ∷ u .to ∷ [] in
+      let r = u .kind ∷ u .term ∷ u .from ∷ u .to ∷ (count + 1) ∷ [] in
       let done = g .done in
-      let is : lineRecord line ≡ r = its-words u line w n in
+      let is = its-words u line w n in
       let one : suc count ≡ count + 1 = omega arith in
+      let two : suc (count + 1) ≡ count + 1 + 1 = omega arith in
       record {
         few = omega (arith, g .few, m);
         done = done ++ r ∷ [];
-        wide = wide-one 4 done r (g .wide) refl;
+        wide = wide-one 5 done r (g .wide) refl;
         many = length-append done (r ∷ []) ∙ omega (arith, g .many);
-        same = sets-behind l 0 (laid done) r {w = 4 * count} (g .same) (laid-length 4 done (g .wide) ∙ ap (λ q. 4 * q) (g .many)) (rw zero-add a)
+        same = sets-behind l 0 (laid done) r {w = 5 * count} (g .same) (laid-length 5 done (g .wide) ∙ ap (λ q. 5 * q) (g .many)) (rw zero-add a)
             ∙ ap (sets l 0) (sym (laid-append done (r ∷ []) ∙ ap (λ q. laid done ++ q) (laid-one r)));
-        rest = g .rest ∙ ap (λ ls. done ++ map lineRecord ls) (line-at bytes at end h e) ∙ ap (λ q. done ++ q ∷ map lineRecord later) is
-            ∙ sym (append-assoc done (r ∷ []) (map lineRecord later));
+        rest = g .rest ∙ ap (λ ls. done ++ numbered (count + 1) (map lineRecord ls)) (line-at bytes at end h e)
+            ∙ ap (λ q. done ++ numbered (count + 1) (q ∷ map lineRecord later)) is
+            ∙ ap (λ q. done ++ q) (numbered-next (count + 1) (u .kind ∷ u .term ∷ u .from ∷ u .to ∷ []) (map lineRecord later))
+            ∙ ap (λ i. done ++ r ∷ numbered i (map lineRecord later)) two ∙ sym (append-assoc done (r ∷ []) (numbered (count + 1 + 1) (map lineRecord later)));
         faults = faults-line ∙ fault-later count line later (number-none count line (some-words n) (omega (arith, g .few, m))) ∙ ap (λ i. faultFrom i later) one;
       }
 
 pub gathering-end :
     {bytes l now : List ℕ} {count at : ℕ} → Gathering bytes l now count at → length bytes ≤ at →
     Gathers bytes l (record { number = 0; line = 0; count = count }) now
-unfolding lines faultFrom lineRecords
+unfolding lines faultFrom lineRecords numbered
 gathering-end {bytes} {l} {now} {count} {at} g h =
     let none : drop at bytes ≡ [] = drop-of-length-le bytes h in
     let f : fault bytes ≡ record { number = 0; line = 0 } = g .faults ∙ rw none in
-    let all : map lineRecord (lines bytes) ≡ g .done = g .rest ∙ rw none (append-nil (g .done)) in
+    let all : numbered 1 (map lineRecord (lines bytes)) ≡ g .done = g .rest ∙ rw none (append-nil (g .done)) in
     record {
       ofNumber = sym (ap (λ x. x .number) f);
       ofLine = sym (ap (λ x. x .line) f);
       stand = λ z. g .same ∙ ap (λ q. sets l 0 (laid q)) (sym all);
-      many = λ z. sym (g .many) ∙ ap length (sym all) ∙ length-map (lines bytes) lineRecord;
+      many = λ z. sym (g .many) ∙ ap length (sym all) ∙ numbered-length 1 (map lineRecord (lines bytes)) ∙ length-map (lines bytes) lineRecord;
       few = g .few;
     }

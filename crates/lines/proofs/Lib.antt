@@ -2,6 +2,7 @@ pub mod Answers
 pub mod Gathering
 pub mod Lines
 pub mod Meaning
+pub mod Numbered
 pub mod Room
 pub mod Settled
 pub mod Splitting

@@ -1,17 +1,19 @@
 -- What is claimed of a scorekeepers' file, each as a type that a theorem inhabits.
-use Prim.Native.Nat.{ℕ, _*_, _≤_, _<_}
+use Prim.Native.Nat.{ℕ, zero, suc, _*_, _≤_, _<_}
 use mathlib.Core.Path.{_≡_}
 use mathlib.Core.Logic.{_≢_, _⊎_}
 use mathlib.Core.Bool.{true, false}
 use mathlib.Core.List.{List, [], _∷_, _++_}
 use lib.ListN.{length, take, getD}
+use lib.Dec.{eqb}
 use Rattle.pair.specs.Rank.{wordLimit}
-use Rattle.pair.specs.Rising.{risingFrom}
+use Rattle.pair.specs.Rising.{risingFrom, any}
 use Rattle.figures.specs.Figures.{decimal}
-use Rattle.batch.specs.Batch.{Update, updates, applied, falls, recordWords, recordsMost}
+use Rattle.batch.specs.Batch.{Update, updates, anyUpdate, adds, applied, falls, arrivals, illNumbered, recordWords, recordsMost}
+use Rattle.batch.specs.Claims.{touches}
 use Rattle.sort.specs.Sort.{laid}
 use Rattle.sort.specs.Claims.{Rearranged}
-use Rattle.lines.specs.Lines.{tab, letterA, letterR, lineRecord, fault, lineRecords, batchOf, scored}
+use Rattle.lines.specs.Lines.{tab, letterA, letterR, lines, lineRecord, fault, lineRecords, batchOf, scored}
 
 -- the line of an addition, and of a removal
 unfoldable pub additionLine : ℕ → ℕ → List ℕ
@@ -58,7 +60,27 @@ BatchSorted =
     (bytes : List ℕ) → fault bytes .number ≡ 0 →
     Rearranged (updates (batchOf bytes)) (updates (laid (lineRecords bytes))) × (falls 0 (updates (batchOf bytes)) ≡ false)
 
+-- n numbers, the first of them k
+unfoldable pub counted : ℕ → ℕ → List ℕ
+counted k zero = []
+counted k (suc n) = k ∷ counted (suc k) n
+
+-- in the order of the lines the arrival numbers are 1, 2, 3 and so on
+unfoldable pub LinesCounted : Type 0
+LinesCounted = (bytes : List ℕ) → fault bytes .number ≡ 0 → arrivals (updates (laid (lineRecords bytes))) ≡ counted 1 (length (lines bytes))
+
+-- so no file earns number 14
+unfoldable pub LinesNumbered : Type 0
+LinesNumbered = (bytes : List ℕ) → fault bytes .number ≡ 0 → illNumbered (updates (batchOf bytes)) ≡ false
+
 -- the order of a batch's updates changes nothing of what they mean
 unfoldable pub OrderMeansNothing : Type 0
 OrderMeansNothing =
     (us vs : List Update) → Rearranged us vs → (s : List ℕ) (k : ℕ) → risingFrom k s ≡ true → applied us s ≡ applied vs s
+
+-- of the lines that touch a pair the last decides
+unfoldable pub LastLineDecides : Type 0
+LastLineDecides =
+    (bytes : List ℕ) (us vs : List Update) (u : Update) (x : ℕ) (s : List ℕ) (k : ℕ) → fault bytes .number ≡ 0 → risingFrom k s ≡ true →
+    updates (laid (lineRecords bytes)) ≡ us ++ u ∷ vs → touches x u ≡ true → anyUpdate (touches x) vs ≡ false →
+    any (eqb x) (applied (updates (batchOf bytes)) s) ≡ adds x u

@@ -1,7 +1,7 @@
 -- The scorekeepers' file: lines of text, one record a line, and the batch that it makes. A byte is its ASCII number.
 use Prim.Native.Nat.{ℕ, suc}
 use mathlib.Core.Bool.{cond, _&&_, not}
-use mathlib.Core.List.{List, [], _∷_, map}
+use mathlib.Core.List.{List, [], _∷_, _++_, map}
 use lib.ListN.{length}
 use lib.Seq.{sets}
 use lib.Dec.{ltb, leb, eqb}
@@ -38,7 +38,7 @@ unfoldable pub fields : List ℕ → List (List ℕ)
 fields [] = [] ∷ []
 fields (b ∷ bs) = cond (eqb b tab) ([] ∷ fields bs) (longer b (fields bs))
 
--- the record of A, a term and a position, or of R, a term, from and to: its four words; none where the fields have another form
+-- the record of A, a term and a position, or of R, a term, from and to: its first four words; none where the fields have another form
 unfoldable pub recordOf : List (List ℕ) → List ℕ
 recordOf [] = []
 recordOf (k ∷ []) = []
@@ -70,9 +70,14 @@ faultFrom i (l ∷ ls) =
 unfoldable pub fault : List ℕ → Fault
 fault bytes = faultFrom 0 (lines bytes)
 
--- the records of the lines, in their order
+-- records with their numbers behind them, the first of them n
+unfoldable pub numbered : ℕ → List (List ℕ) → List (List ℕ)
+numbered n [] = []
+numbered n (r ∷ rs) = (r ++ n ∷ []) ∷ numbered (suc n) rs
+
+-- the records of the lines, in their order; the number of its line, from 1, is a record's fifth word, its arrival number
 unfoldable pub lineRecords : List ℕ → List (List ℕ)
-lineRecords bytes = map lineRecord (lines bytes)
+lineRecords bytes = numbered 1 (map lineRecord (lines bytes))
 
 -- the batch: these records sorted by term, then from, which are their second and third word
 unfoldable pub batchOf : List ℕ → List ℕ

@@ -21,13 +21,13 @@ const TOO_MANY_LINES: u32 = 13;
 const SHORT_BATCH: u32 = 10;
 
 // The words of a record, the first word of its key, and the most records and words of a batch.
-const RECORD_WORDS: usize = 4;
+const RECORD_WORDS: usize = 5;
 
 const KEY: usize = 1;
 
 const RECORDS_MOST: usize = 4_096;
 
-const WORDS_MOST: usize = 16_384;
+const WORDS_MOST: usize = 20_480;
 
 const LINE_FEED: u8 = b'\n';
 
@@ -41,18 +41,19 @@ struct Gathered {
     count: usize,
 }
 
-// Writes the words of a record from a word on.
-fn put_record(records: &mut [u32], at: usize, u: Record)
+// Writes the words of a record, the last of them its arrival number, from a word on.
+fn put_record(records: &mut [u32], at: usize, u: Record, arrival: u32)
     requires { ⌜ at + recordWords ≤ length (now records) ⌝ }
-    ensures { λ _. ⌜ now (records .exit) ≡ sets (now (records .entry)) at (u .kind ∷ u .term ∷ u .from ∷ u .to ∷ []) ⌝ }
+    ensures { λ _. ⌜ now (records .exit) ≡ sets (now (records .entry)) at (u .kind ∷ u .term ∷ u .from ∷ u .to ∷ arrival ∷ []) ⌝ }
 {
     records[at] = u.kind;
     records[at + 1] = u.term;
     records[at + 2] = u.from;
     records[at + 3] = u.to;
+    records[at + 4] = arrival;
 }
 
-// Writes the records of the lines into a memory that has room for the most.
+// Writes the records of the lines into a memory that has room for the most. The number of its line is a record's arrival number.
 fn gather(bytes: &[u8], records: &mut [u32]) -> Gathered
     requires { ⌜ length (now records) ≡ recordWords * recordsMost ⌝ }
     ensures { λ r. ⌜ Gathers (now (bytes .entry)) (now (records .entry)) r (now (records .exit)) ⌝ }
@@ -63,22 +64,23 @@ fn gather(bytes: &[u8], records: &mut [u32]) -> Gathered
         let end = before(bytes, at, LINE_FEED);
         let u = read_line(&bytes[at..end]);
         let kind = u.kind;
+        let line = count + 1;
         if kind == 0 {
             return Gathered {
                 number: OTHER_FORM,
-                line: count + 1,
+                line,
                 count: 0,
             };
         }
         if count == RECORDS_MOST {
             return Gathered {
                 number: TOO_MANY_LINES,
-                line: count + 1,
+                line,
                 count: 0,
             };
         }
-        put_record(records, RECORD_WORDS * count, u);
-        count += 1;
+        put_record(records, RECORD_WORDS * count, u, line as u32);
+        count = line;
         if end == bytes.len() {
             break;
         }

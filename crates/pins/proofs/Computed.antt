@@ -9,7 +9,8 @@ use Rattle.pair.specs.Tests.{same, firstOf}
 use Rattle.block.specs.Block.{zeros, pairsFrom, pairs, formedFrom, formed, leading, packedAfter, blockOf, fitting, due, goesOn}
 use Rattle.card.specs.Layout.{widthOf, firstPair, place, around, pairsAt, live, formatNumber, formatted, duePlace}
 use Rattle.card.specs.Sound.{blocksSound, firstReaches, boundaryAgrees, segmentsSound, judged}
-use Rattle.batch.specs.Batch.{updates, anyUpdate, adds, removes, withdrawn, withAdded, applied, illFormed, falls, batchNumber}
+use Rattle.repeat.specs.Repeats.{repeats}
+use Rattle.batch.specs.Batch.{updates, anyUpdate, adds, removes, latest, withdrawn, withAdded, applied, illFormed, falls, arrivals, illNumbered, batchNumber}
 use Rattle.update.specs.Step.{remains, spent, configured, nextBoundary, freed, grown, configuration, dueBlock, dueEntry, nextWrite, theWrite, crowded, stepNumber, taken, refused, step}
 use Rattle.update.specs.Pass.{blocksFrom, blocks, finishesWithin, refusedWithin}
 use Rattle.found.specs.Found.{found, mappedTo, span, blocksRead, questionNumber, lookupNumber, lookup}
@@ -25,7 +26,7 @@ pub every-row-seen : allSeen table ≡ true
 unfolding Cases
 every-row-seen = cases
 
-pub every-row-there : length table ≡ 28
+pub every-row-there : length table ≡ 30
 every-row-there = refl
 
 pub record Computed : Type 0 where
@@ -52,7 +53,7 @@ pub record Computed : Type 0 where
   pub index : live (ran card keepsThree) ≡ rank 5 2 ∷ rank 5 9 ∷ rank 7 4 ∷ []
 
 pub computed : Computed
-unfolding keep above within risingFrom insert last any same firstOf zeros pairsFrom pairs formedFrom formed leading packedAfter blockOf fitting due goesOn widthOf firstPair place around pairsAt live formatNumber formatted blocksSound firstReaches boundaryAgrees segmentsSound judged updates anyUpdate adds removes withdrawn withAdded applied illFormed falls batchNumber remains duePlace spent configured nextBoundary freed grown configuration dueBlock dueEntry nextWrite theWrite crowded stepNumber taken refused step found mappedTo span blocksRead questionNumber lookupNumber lookup just tornWrite torn history.after ran finishing finished afterSteps fresh first met meets blocksFrom blocks finishesWithin refusedWithin
+unfolding keep above within risingFrom insert last any same firstOf zeros pairsFrom pairs formedFrom formed leading packedAfter blockOf fitting due goesOn widthOf firstPair place around pairsAt live formatNumber formatted blocksSound firstReaches boundaryAgrees segmentsSound judged updates anyUpdate adds removes latest withdrawn withAdded applied illFormed falls arrivals illNumbered repeats batchNumber remains duePlace spent configured nextBoundary freed grown configuration dueBlock dueEntry nextWrite theWrite crowded stepNumber taken refused step found mappedTo span blocksRead questionNumber lookupNumber lookup just tornWrite torn history.after ran finishing finished afterSteps fresh first met meets blocksFrom blocks finishesWithin refusedWithin
 computed =
     record {
       p1-blocks = refl;

@@ -15,32 +15,40 @@ use Rattle.pair.proofs.Tests.{compared}
 use Rattle.block.specs.Block.{zeros, pairsFrom, pairs, formedFrom, formed, leading, packedAfter, blockOf, fitting, due, goesOn}
 use Rattle.card.specs.Layout.{widthOf, firstPair, place, around, pairsAt, live, formatNumber, formatted, duePlace}
 use Rattle.card.specs.Sound.{blocksSound, firstReaches, boundaryAgrees, segmentsSound, judged}
-use Rattle.batch.specs.Batch.{Update, updates, anyUpdate, adds, removes, withdrawn, withAdded, applied, illFormed, falls, batchNumber}
+use Rattle.repeat.specs.Repeats.{repeats}
+use Rattle.batch.specs.Batch.{Update, updates, anyUpdate, adds, removes, latest, withdrawn, withAdded, applied, illFormed, falls, arrivals, illNumbered, batchNumber}
 use Rattle.batch.specs.Claims.{EmptyRangeRemovesNothing, EmptyRangeTakenOut, EmptyRangePutIn}
 use Rattle.batch.proofs.EmptyRanges.{emptyRangeRemovesNothing, emptyRangeTakenOut, emptyRangePutIn}
 use Rattle.update.specs.Step.{remains, spent, configured, nextBoundary, freed, grown, configuration, dueBlock, dueEntry, nextWrite, theWrite, crowded, stepNumber, taken, refused, step}
 use Rattle.found.specs.Found.{questionNumber}
-use Rattle.history.specs.Cases.{afterSteps, three, fresh, first}
+use Rattle.history.specs.Cases.{afterSteps, fresh, first}
 use Rattle.history.specs.Claims.{freePlaces, EmptyRangeSameStep}
 use Rattle.history.proofs.EmptyRanges.{emptyRangeSameStep}
 
--- a removal of a term, and one of every term, is in order whatever its from and to are, unless one of them is 0
+-- a removal of a term, and one of every term, is in order whatever its from, to and arrival number are, unless one of them is 0
 pub removals-accepted :
-    (t a z : ℕ) → 1 ≤ t → 1 ≤ a → 1 ≤ z → (batchNumber (2 ∷ t ∷ a ∷ z ∷ []) ≡ 0) × (batchNumber (3 ∷ 0 ∷ a ∷ z ∷ []) ≡ 0)
-unfolding batchNumber firstOf updates anyUpdate illFormed falls
-removals-accepted t a z ht ha hz = rw (some t ht, some a ha, some z hz, le-ltb (rank t a) 0 (omega arith), le-ltb (rank 0 a) 0 (omega arith)) (refl, refl)
+    (t a z n : ℕ) → 1 ≤ t → 1 ≤ a → 1 ≤ z → 1 ≤ n → (batchNumber (2 ∷ t ∷ a ∷ z ∷ n ∷ []) ≡ 0) × (batchNumber (3 ∷ 0 ∷ a ∷ z ∷ n ∷ []) ≡ 0)
+unfolding batchNumber firstOf updates anyUpdate illFormed illNumbered arrivals any repeats falls
+removals-accepted t a z n ht ha hz hn = rw (some t ht, some a ha, some z hz, ne-eqb 0 n (omega arith), le-ltb (rank t a) 0 (omega arith), le-ltb (rank 0 a) 0 (omega arith)) (refl, refl)
   where
     some : (n : ℕ) → 1 ≤ n → eqb n 0 ≡ false
     some n h = ne-eqb n 0 (omega arith)
 
 -- with a 0 in to it is not, nor is an addition of anything but one position
-pub to-zero-refused : (t a : ℕ) → (batchNumber (2 ∷ t ∷ a ∷ 0 ∷ []) ≡ 6) × (batchNumber (3 ∷ t ∷ a ∷ 0 ∷ []) ≡ 6)
+pub to-zero-refused : (t a n : ℕ) → (batchNumber (2 ∷ t ∷ a ∷ 0 ∷ n ∷ []) ≡ 6) × (batchNumber (3 ∷ t ∷ a ∷ 0 ∷ n ∷ []) ≡ 6)
 unfolding batchNumber firstOf updates anyUpdate illFormed falls
-to-zero-refused t a = (rw or-true refl, rw or-true refl)
+to-zero-refused t a n = (rw or-true refl, rw or-true refl)
 
-pub addition-of-one : (t a z : ℕ) → (a ≡ z → ⊥) → batchNumber (1 ∷ t ∷ a ∷ z ∷ []) ≡ 6
+pub addition-of-one : (t a z n : ℕ) → (a ≡ z → ⊥) → batchNumber (1 ∷ t ∷ a ∷ z ∷ n ∷ []) ≡ 6
 unfolding batchNumber firstOf updates anyUpdate illFormed falls
-addition-of-one t a z n = rw (ne-eqb a z n, or-true) refl
+addition-of-one t a z n h = rw (ne-eqb a z h, or-true) refl
+
+-- no arrival number makes a record ill formed: of two that differ in it alone both are, or neither is
+pub any-arrival :
+    (k t a z m n : ℕ) →
+    illFormed (record { kind = k; term = t; from = a; to = z; arrival = m }) ≡ illFormed (record { kind = k; term = t; from = a; to = z; arrival = n })
+unfolding illFormed
+any-arrival k t a z m n = refl
 
 -- two numbers are apart where one is above the other
 apart : (a z : ℕ) → not (eqb a z) ≡ (ltb z a || ltb a z)
@@ -78,33 +86,34 @@ empty-range-removes-nothing = emptyRangeRemovesNothing
 
 -- taken out of a batch in order
 pub empty-range-taken-out :
-    (b d : List ℕ) (k t a z : ℕ) → length b % 4 ≡ 0 → (k ≡ 1 → ⊥) → z < a → batchNumber (b ++ k ∷ t ∷ a ∷ z ∷ d) ≡ 0 →
-    (batchNumber (b ++ d) ≡ 0) × ((s : List ℕ) → applied (updates (b ++ d)) s ≡ applied (updates (b ++ k ∷ t ∷ a ∷ z ∷ d)) s)
+    (b d : List ℕ) (k t a z n : ℕ) → length b % 5 ≡ 0 → (k ≡ 1 → ⊥) → z < a → batchNumber (b ++ k ∷ t ∷ a ∷ z ∷ n ∷ d) ≡ 0 →
+    (batchNumber (b ++ d) ≡ 0) × ((s : List ℕ) → applied (updates (b ++ d)) s ≡ applied (updates (b ++ k ∷ t ∷ a ∷ z ∷ n ∷ d)) s)
 unfolding EmptyRangeTakenOut
 empty-range-taken-out = emptyRangeTakenOut
 
--- put into a batch in order, at its place
+-- put into a batch in order, at its place and with a number of its own
 pub empty-range-put-in :
-    (b d : List ℕ) (k t a z : ℕ) → length b % 4 ≡ 0 → (k ≡ 1 → ⊥) → z < a → batchNumber (b ++ d) ≡ 0 → length (b ++ d) < 16384 →
-    illFormed (record { kind = k; term = t; from = a; to = z }) ≡ false → falls 0 (updates (b ++ k ∷ t ∷ a ∷ z ∷ d)) ≡ false →
-    (batchNumber (b ++ k ∷ t ∷ a ∷ z ∷ d) ≡ 0) × ((s : List ℕ) → applied (updates (b ++ k ∷ t ∷ a ∷ z ∷ d)) s ≡ applied (updates (b ++ d)) s)
+    (b d : List ℕ) (k t a z n : ℕ) → length b % 5 ≡ 0 → (k ≡ 1 → ⊥) → z < a → batchNumber (b ++ d) ≡ 0 → length (b ++ d) < 20480 →
+    illFormed (record { kind = k; term = t; from = a; to = z; arrival = n }) ≡ false → falls 0 (updates (b ++ k ∷ t ∷ a ∷ z ∷ n ∷ d)) ≡ false →
+    (n ≡ 0 → ⊥) → any (eqb n) (arrivals (updates (b ++ d))) ≡ false →
+    (batchNumber (b ++ k ∷ t ∷ a ∷ z ∷ n ∷ d) ≡ 0) × ((s : List ℕ) → applied (updates (b ++ k ∷ t ∷ a ∷ z ∷ n ∷ d)) s ≡ applied (updates (b ++ d)) s)
 unfolding EmptyRangePutIn
 empty-range-put-in = emptyRangePutIn
 
 -- and every step is the one without it
 pub empty-range-same-step :
-    (c b d : List ℕ) (k t a z : ℕ) → length b % 4 ≡ 0 → (k ≡ 1 → ⊥) → z < a → batchNumber (b ++ k ∷ t ∷ a ∷ z ∷ d) ≡ 0 →
-    step c (b ++ k ∷ t ∷ a ∷ z ∷ d) ≡ step c (b ++ d)
+    (c b d : List ℕ) (k t a z n : ℕ) → length b % 5 ≡ 0 → (k ≡ 1 → ⊥) → z < a → batchNumber (b ++ k ∷ t ∷ a ∷ z ∷ n ∷ d) ≡ 0 →
+    step c (b ++ k ∷ t ∷ a ∷ z ∷ n ∷ d) ≡ step c (b ++ d)
 unfolding EmptyRangeSameStep
 empty-range-same-step = emptyRangeSameStep
 
 -- on P1's card: a round and two removals with no game in them around an addition, the last from the highest position to the lowest
 abbrev around-one : List ℕ
-around-one = 3 ∷ 0 ∷ 9 ∷ 3 ∷ 2 ∷ 5 ∷ 9 ∷ 2 ∷ 1 ∷ 6 ∷ 1 ∷ 1 ∷ 2 ∷ 7 ∷ 4294967295 ∷ 1 ∷ []
+around-one = 3 ∷ 0 ∷ 9 ∷ 3 ∷ 1 ∷ 2 ∷ 5 ∷ 9 ∷ 2 ∷ 2 ∷ 1 ∷ 6 ∷ 1 ∷ 1 ∷ 3 ∷ 2 ∷ 7 ∷ 4294967295 ∷ 1 ∷ 4 ∷ []
 
 -- removals alone, one of them of games
 abbrev removals : List ℕ
-removals = 2 ∷ 5 ∷ 2 ∷ 2 ∷ 2 ∷ 5 ∷ 9 ∷ 3 ∷ []
+removals = 2 ∷ 5 ∷ 2 ∷ 2 ∷ 1 ∷ 2 ∷ 5 ∷ 9 ∷ 3 ∷ 2 ∷ []
 
 pub record Empties : Type 0 where
   pub in-order : batchNumber around-one ≡ 0
@@ -116,15 +125,15 @@ pub record Empties : Type 0 where
   pub two-free : freePlaces (first 4) ≡ 3
   pub removed : live (afterSteps 3 removals (first 4)) ≡ rank 5 9 ∷ rank 7 4 ∷ []
   -- the order is that of from: 8 to 20 then 9 to 3, and the other way about; 6 comes first
-  pub by-from : batchNumber (2 ∷ 5 ∷ 8 ∷ 20 ∷ 2 ∷ 5 ∷ 9 ∷ 3 ∷ []) ≡ 0
-  pub fallen : batchNumber (2 ∷ 5 ∷ 9 ∷ 3 ∷ 2 ∷ 5 ∷ 8 ∷ 20 ∷ []) ≡ 7
-  pub fallen-round : batchNumber (3 ∷ 0 ∷ 9 ∷ 3 ∷ 3 ∷ 0 ∷ 8 ∷ 20 ∷ []) ≡ 7
-  pub ill-formed-first : batchNumber (2 ∷ 5 ∷ 9 ∷ 3 ∷ 1 ∷ 5 ∷ 8 ∷ 7 ∷ []) ≡ 6
+  pub by-from : batchNumber (2 ∷ 5 ∷ 8 ∷ 20 ∷ 1 ∷ 2 ∷ 5 ∷ 9 ∷ 3 ∷ 2 ∷ []) ≡ 0
+  pub fallen : batchNumber (2 ∷ 5 ∷ 9 ∷ 3 ∷ 1 ∷ 2 ∷ 5 ∷ 8 ∷ 20 ∷ 2 ∷ []) ≡ 7
+  pub fallen-round : batchNumber (3 ∷ 0 ∷ 9 ∷ 3 ∷ 1 ∷ 3 ∷ 0 ∷ 8 ∷ 20 ∷ 2 ∷ []) ≡ 7
+  pub ill-formed-first : batchNumber (2 ∷ 5 ∷ 9 ∷ 3 ∷ 1 ∷ 1 ∷ 5 ∷ 8 ∷ 7 ∷ 2 ∷ []) ≡ 6
   -- a lookup of such a range is refused
   pub looked-up : questionNumber (first 4) 5 9 3 ≡ 9
 
 pub empties : Empties
-unfolding keep above risingFrom insert last any same firstOf zeros pairsFrom pairs formedFrom formed leading packedAfter blockOf fitting due goesOn widthOf firstPair place around pairsAt live formatNumber formatted blocksSound firstReaches boundaryAgrees segmentsSound judged updates anyUpdate adds removes withdrawn withAdded applied illFormed falls batchNumber remains duePlace spent configured nextBoundary freed grown configuration dueBlock dueEntry nextWrite theWrite crowded stepNumber taken refused step questionNumber afterSteps fresh first freePlaces
+unfolding keep above risingFrom insert last any same firstOf zeros pairsFrom pairs formedFrom formed leading packedAfter blockOf fitting due goesOn widthOf firstPair place around pairsAt live formatNumber formatted blocksSound firstReaches boundaryAgrees segmentsSound judged updates anyUpdate adds removes latest withdrawn withAdded applied illFormed falls arrivals illNumbered repeats batchNumber remains duePlace spent configured nextBoundary freed grown configuration dueBlock dueEntry nextWrite theWrite crowded stepNumber taken refused step questionNumber afterSteps fresh first freePlaces
 empties =
     record {
       in-order = refl;

@@ -11,7 +11,8 @@ use Rattle.pair.specs.Tests.{same, firstOf}
 use Rattle.block.specs.Block.{zeros, pairsFrom, pairs, formedFrom, formed, leading, packedAfter, blockOf, fitting, due, goesOn}
 use Rattle.card.specs.Layout.{placeCount, oldLength, newLength, widthOf, firstPair, place, around, pairsAt, live, formatNumber, formatted, duePlace}
 use Rattle.card.specs.Sound.{blocksSound, firstReaches, boundaryAgrees, segmentsSound, judged}
-use Rattle.batch.specs.Batch.{updates, anyUpdate, adds, removes, withdrawn, withAdded, applied, illFormed, falls, batchNumber}
+use Rattle.repeat.specs.Repeats.{repeats}
+use Rattle.batch.specs.Batch.{updates, anyUpdate, adds, removes, latest, withdrawn, withAdded, applied, illFormed, falls, arrivals, illNumbered, batchNumber}
 use Rattle.update.specs.declared.forecast.ForecastAnswer.the-variants.{Refused, Finishes, Stops}
 use Rattle.update.specs.Step.{remains, spent, configured, nextBoundary, freed, grown, configuration, dueBlock, dueEntry, nextWrite, theWrite, crowded, stepNumber, taken, refused, step}
 use Rattle.update.specs.Pass.{blocksFrom, blocks, stepLimit, uncut}
@@ -72,9 +73,10 @@ pub record Forecasts : Type 0 where
   pub p4-empty : forecast (afterSteps 3 addEightOne (first 2)) [] ≡ Finishes 0 1
   -- P6: nothing remains
   pub p6 : forecast (first 4) removeBoth ≡ Finishes 0 1
-  -- a batch that is not in order
-  pub unordered : forecast (fresh 4) (1 ∷ 7 ∷ 4 ∷ 4 ∷ 1 ∷ 5 ∷ 2 ∷ 2 ∷ []) ≡ Refused 7
+  -- a batch that is not in order, and one that has an arrival number twice besides
+  pub unordered : forecast (fresh 4) (1 ∷ 7 ∷ 4 ∷ 4 ∷ 1 ∷ 1 ∷ 5 ∷ 2 ∷ 2 ∷ 2 ∷ []) ≡ Refused 7
+  pub numbered-twice : forecast (fresh 4) (1 ∷ 7 ∷ 4 ∷ 4 ∷ 1 ∷ 1 ∷ 5 ∷ 2 ∷ 2 ∷ 1 ∷ []) ≡ Refused 14
 
 pub forecasts : Forecasts
-unfolding keep above risingFrom insert last any same firstOf zeros pairsFrom pairs formedFrom formed leading packedAfter blockOf fitting due goesOn widthOf firstPair place around pairsAt live formatNumber formatted blocksSound firstReaches boundaryAgrees segmentsSound judged updates anyUpdate adds removes withdrawn withAdded applied illFormed falls batchNumber remains duePlace spent configured nextBoundary freed grown configuration dueBlock dueEntry nextWrite theWrite crowded stepNumber taken refused step afterSteps fresh first blocksFrom blocks stepLimit freeWrites foreseen outlook forecastNumber forecast
-forecasts = record { p1 = refl; p3 = refl; p4 = refl; p4-stopped = refl; p4-empty = refl; p6 = refl; unordered = refl }
+unfolding keep above risingFrom insert last any same firstOf zeros pairsFrom pairs formedFrom formed leading packedAfter blockOf fitting due goesOn widthOf firstPair place around pairsAt live formatNumber formatted blocksSound firstReaches boundaryAgrees segmentsSound judged updates anyUpdate adds removes latest withdrawn withAdded applied illFormed falls arrivals illNumbered repeats batchNumber remains duePlace spent configured nextBoundary freed grown configuration dueBlock dueEntry nextWrite theWrite crowded stepNumber taken refused step afterSteps fresh first blocksFrom blocks stepLimit freeWrites foreseen outlook forecastNumber forecast
+forecasts = record { p1 = refl; p3 = refl; p4 = refl; p4-stopped = refl; p4-empty = refl; p6 = refl; unordered = refl; numbered-twice = refl }

@@ -1,4 +1,5 @@
 pub mod Annulled
+pub mod Arrivals
 pub mod Computed
 pub mod Cuts
 pub mod Demand3

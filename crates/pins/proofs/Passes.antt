@@ -29,7 +29,7 @@ use Rattle.pins.specs.Lists.{wordsOf, Throughout}
 use Rattle.pins.proofs.Demand3.{given}
 
 -- what is claimed of the card that a list leaves where it keeps to one batch, event by event
-throughout :
+pub throughout :
     (b : List ℕ) (P : List ℕ → Bool → Type 0) (es : List Event) (c : List ℕ) (f : Bool) →
     (Keeps c b es → P (ran c es) (f || finished c es)) → Throughout b P c f es
 unfolding Throughout Lends Keeps after ran finishing finished

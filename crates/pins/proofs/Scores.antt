@@ -2,7 +2,7 @@
 use Prim.Native.Nat.{ℕ, _+_, _≤_, _<_}
 use mathlib.Core.Path.{_≡_, refl}
 use mathlib.Core.Logic.{_⊎_}
-use mathlib.Core.Bool.{Bool, true, false}
+use mathlib.Core.Bool.{Bool, true, false, _||_}
 use mathlib.Core.List.{List, [], _∷_, _++_}
 use lib.ListN.{length, take, getD}
 use lib.Dec.{eqb}
@@ -18,12 +18,14 @@ use Rattle.sort.proofs.Claims.{sortRearranges, sortOrders, sortKeepsArrival, so
 use Rattle.block.specs.Block.{zeros, pairsFrom, pairs, formedFrom, formed, leading, packedAfter, blockOf, fitting, due, goesOn}
 use Rattle.card.specs.Layout.{widthOf, blockSize, firstPair, place, around, pairsAt, live, formatNumber, formatted, duePlace}
 use Rattle.card.specs.Sound.{blocksSound, firstReaches, boundaryAgrees, segmentsSound, judged}
-use Rattle.batch.specs.Batch.{Update, updates, anyUpdate, adds, removes, withdrawn, withAdded, applied, illFormed, falls, batchNumber}
+use Rattle.repeat.specs.Repeats.{repeats}
+use Rattle.batch.specs.Batch.{Update, updates, anyUpdate, adds, removes, latest, withdrawn, withAdded, applied, illFormed, falls, arrivals, illNumbered, batchNumber}
+use Rattle.batch.specs.Claims.{touches}
 use Rattle.update.specs.Step.{remains, spent, nextBoundary, freed, grown, configured, dueBlock, dueEntry, configuration, nextWrite, theWrite, crowded, stepNumber, taken, refused, step}
 use Rattle.update.specs.Pass.{blocksFrom, blocks, stepLimit}
-use Rattle.lines.specs.Lines.{longer, lines, fields, recordOf, lineRecord, lineNumber, faultFrom, fault, lineRecords, batchOf, scored}
-use Rattle.lines.specs.Claims.{additionLine, removalLine, LinesRead, LinesOnly, LinesShort, FileSettled, RoomEnough, BatchSorted, OrderMeansNothing}
-use Rattle.lines.proofs.Meaning.{roomEnough, batchSorted, orderMeansNothing}
+use Rattle.lines.specs.Lines.{longer, lines, fields, recordOf, lineRecord, lineNumber, faultFrom, fault, numbered, lineRecords, batchOf, scored}
+use Rattle.lines.specs.Claims.{additionLine, removalLine, LinesRead, LinesOnly, LinesShort, FileSettled, RoomEnough, BatchSorted, counted, LinesCounted, LinesNumbered, OrderMeansNothing, LastLineDecides}
+use Rattle.lines.proofs.Meaning.{roomEnough, batchSorted, linesCounted, linesNumbered, orderMeansNothing, lastLineDecides}
 use Rattle.lines.proofs.Settled.{linesShort, fileSettled}
 use Rattle.lines.proofs.Written.{linesRead, linesOnly}
 use Rattle.scores.specs.declared.Outcome.the-variants.{Finished, Refused}
@@ -93,8 +95,8 @@ pub outcome-settled : (bytes : List ℕ) → outcome bytes ≡ outcome (take 143
 unfolding OutcomeSettled
 outcome-settled = outcomeSettled
 
--- 16,384 words are enough for any batch of a file
-pub room-enough : (bytes batch : List ℕ) → 16384 ≤ length batch → scored bytes batch .number ≡ fault bytes .number
+-- 20,480 words are enough for any batch of a file
+pub room-enough : (bytes batch : List ℕ) → 20480 ≤ length batch → scored bytes batch .number ≡ fault bytes .number
 unfolding RoomEnough
 room-enough = roomEnough
 
@@ -106,12 +108,30 @@ pub batch-sorted :
 unfolding BatchSorted Rearranged
 batch-sorted = batchSorted
 
+-- the arrival numbers of the lines are 1, 2, 3 and so on, and no file earns number 14
+pub lines-counted : (bytes : List ℕ) → fault bytes .number ≡ 0 → arrivals (updates (laid (lineRecords bytes))) ≡ counted 1 (length (lines bytes))
+unfolding LinesCounted
+lines-counted = linesCounted
+
+pub lines-numbered :
+    (bytes : List ℕ) → fault bytes .number ≡ 0 → (any (eqb 0) (arrivals (updates (batchOf bytes))) || repeats (arrivals (updates (batchOf bytes)))) ≡ false
+unfolding LinesNumbered illNumbered
+lines-numbered = linesNumbered
+
 -- a batch and any rearrangement of its updates make the same of every set
 pub order-means-nothing :
     (us vs : List Update) → ((f : Update → Bool) → length (those f us) ≡ length (those f vs)) → (s : List ℕ) (k : ℕ) → risingFrom k s ≡ true →
     applied us s ≡ applied vs s
 unfolding OrderMeansNothing Rearranged
 order-means-nothing = orderMeansNothing
+
+-- of the lines that touch a pair the last decides
+pub last-line-decides :
+    (bytes : List ℕ) (us vs : List Update) (u : Update) (x : ℕ) (s : List ℕ) (k : ℕ) → fault bytes .number ≡ 0 → risingFrom k s ≡ true →
+    updates (laid (lineRecords bytes)) ≡ us ++ u ∷ vs → (adds x u || removes x u) ≡ true → anyUpdate (λ v. adds x v || removes x v) vs ≡ false →
+    any (eqb x) (applied (updates (batchOf bytes)) s) ≡ adds x u
+unfolding LastLineDecides touches
+last-line-decides = lastLineDecides
 
 -- a pass on a sound card ends within the step limit
 pub pass-within-limit :
@@ -140,17 +160,17 @@ pub record LinesComputed : Type 0 where
   pub most-lines : faultFrom 4095 ((65 ∷ 9 ∷ 53 ∷ 9 ∷ 57 ∷ []) ∷ []) ≡ record { number = 0; line = 0 }
   pub line-more : faultFrom 4096 ((65 ∷ 9 ∷ 53 ∷ 9 ∷ 57 ∷ []) ∷ []) ≡ record { number = 13; line = 4097 }
   pub line-more-empty : faultFrom 4096 ([] ∷ []) ≡ record { number = 12; line = 4097 }
-  -- R 5 2 7, A 4 9, A 5 2: sorted by term, then from, the removal before the addition of the same key
+  -- R 5 2 7, A 4 9, A 5 2: sorted by term, then from, the removal before the addition of the same key, each with its line's number
   pub batch :
       batchOf (82 ∷ 9 ∷ 53 ∷ 9 ∷ 50 ∷ 9 ∷ 55 ∷ 10 ∷ 65 ∷ 9 ∷ 52 ∷ 9 ∷ 57 ∷ 10 ∷ 65 ∷ 9 ∷ 53 ∷ 9 ∷ 50 ∷ []) ≡
-      1 ∷ 4 ∷ 9 ∷ 9 ∷ 2 ∷ 5 ∷ 2 ∷ 7 ∷ 1 ∷ 5 ∷ 2 ∷ 2 ∷ []
+      1 ∷ 4 ∷ 9 ∷ 9 ∷ 2 ∷ 2 ∷ 5 ∷ 2 ∷ 7 ∷ 1 ∷ 1 ∷ 5 ∷ 2 ∷ 2 ∷ 3 ∷ []
   -- records of two words with one left over, and a work memory that is too short, are not sorted
   pub ragged : sort 2 0 (2 ∷ 1 ∷ 1 ∷ []) (0 ∷ 0 ∷ 0 ∷ []) ≡ record { done = false; words = 2 ∷ 1 ∷ 1 ∷ []; work = 0 ∷ 0 ∷ 0 ∷ [] }
   pub cramped : sort 2 0 (2 ∷ 1 ∷ 1 ∷ 1 ∷ []) (0 ∷ 0 ∷ 0 ∷ []) ≡ record { done = false; words = 2 ∷ 1 ∷ 1 ∷ 1 ∷ []; work = 0 ∷ 0 ∷ 0 ∷ [] }
   pub both-sorted : sort 2 0 (2 ∷ 1 ∷ 1 ∷ 1 ∷ []) (0 ∷ 0 ∷ 0 ∷ 0 ∷ 7 ∷ []) ≡ record { done = true; words = 1 ∷ 1 ∷ 2 ∷ 1 ∷ []; work = 1 ∷ 1 ∷ 2 ∷ 1 ∷ 7 ∷ [] }
 
 pub lines-computed : LinesComputed
-unfolding same firstOf isFigure allFigures worth isNumber recordAt recordsFrom records laid keyAt placed sorted sortedWords sortable sort longer lines fields recordOf lineRecord lineNumber faultFrom fault lineRecords batchOf
+unfolding same firstOf isFigure allFigures worth isNumber recordAt recordsFrom records laid keyAt placed sorted sortedWords sortable sort longer lines fields recordOf lineRecord lineNumber faultFrom fault numbered lineRecords batchOf
 lines-computed =
     record {
       none = refl;
@@ -186,12 +206,15 @@ pub record OutcomesComputed : Type 0 where
   pub of-range-to-zero : outcome (82 ∷ 9 ∷ 53 ∷ 9 ∷ 57 ∷ 9 ∷ 48 ∷ []) ≡ Refused 6
   pub of-every-term : outcome (82 ∷ 9 ∷ 48 ∷ 9 ∷ 50 ∷ 9 ∷ 52 ∷ []) ≡ Refused 6
   pub of-empty-line : outcome (10 ∷ []) ≡ Refused 12
+  -- A 5 2 and R 5 1 9 in both orders: the pair is written only where its line is the second
+  pub of-removal-last : outcome (65 ∷ 9 ∷ 53 ∷ 9 ∷ 50 ∷ 10 ∷ 82 ∷ 9 ∷ 53 ∷ 9 ∷ 49 ∷ 9 ∷ 57 ∷ 10 ∷ []) ≡ Finished 1
+  pub of-addition-last : outcome (82 ∷ 9 ∷ 53 ∷ 9 ∷ 49 ∷ 9 ∷ 57 ∷ 10 ∷ 65 ∷ 9 ∷ 53 ∷ 9 ∷ 50 ∷ 10 ∷ []) ≡ Finished 3
   -- D, tab, 1 and N, tab, 12
   pub print-finished : printed (Finished 1) ≡ 68 ∷ 9 ∷ 49 ∷ 10 ∷ []
   pub print-refused : printed (Refused 12) ≡ 78 ∷ 9 ∷ 49 ∷ 50 ∷ 10 ∷ []
 
 pub outcomes-computed : OutcomesComputed
-unfolding keep above within risingFrom insert last any same firstOf zeros pairsFrom pairs formedFrom formed leading packedAfter blockOf fitting due goesOn widthOf firstPair place around pairsAt live formatNumber formatted blocksSound firstReaches boundaryAgrees segmentsSound judged updates anyUpdate adds removes withdrawn withAdded applied illFormed falls batchNumber remains duePlace spent configured nextBoundary freed grown configuration dueBlock dueEntry nextWrite theWrite crowded stepNumber taken refused step blocksFrom blocks stepLimit lastFigures decimal isFigure allFigures worth isNumber laid keyAt placed sorted longer lines fields recordOf lineRecord lineNumber faultFrom fault lineRecords batchOf freshCard passFrom stepsMost pass outcome printedLine printed
+unfolding keep above within risingFrom insert last any same firstOf zeros pairsFrom pairs formedFrom formed leading packedAfter blockOf fitting due goesOn widthOf firstPair place around pairsAt live formatNumber formatted blocksSound firstReaches boundaryAgrees segmentsSound judged updates anyUpdate adds removes latest withdrawn withAdded applied illFormed falls arrivals repeats illNumbered batchNumber remains duePlace spent configured nextBoundary freed grown configuration dueBlock dueEntry nextWrite theWrite crowded stepNumber taken refused step blocksFrom blocks stepLimit lastFigures decimal isFigure allFigures worth isNumber laid keyAt placed sorted longer lines fields recordOf lineRecord lineNumber faultFrom fault numbered lineRecords batchOf freshCard passFrom stepsMost pass outcome printedLine printed
 outcomes-computed =
     record {
       of-none = refl;
@@ -201,6 +224,8 @@ outcomes-computed =
       of-range-to-zero = refl;
       of-every-term = refl;
       of-empty-line = refl;
+      of-removal-last = refl;
+      of-addition-last = refl;
       print-finished = refl;
       print-refused = refl;
     }

@@ -3,7 +3,7 @@ use Prim.Native.Nat.{ℕ, _+_, _*_, _≤_, _<_}
 use native.Mathlib.Omega.{arith}
 use mathlib.Core.Path.{_≡_, refl, ap}
 use mathlib.Core.Bool.{Bool, true, false, cond, not}
-use mathlib.Core.List.{List, [], _∷_}
+use mathlib.Core.List.{List, []}
 use lib.ListN.{length, replicate}
 use lib.Dec.{ltb, eqb}
 use Rattle.pair.specs.Rank.{wordLimit}
@@ -15,6 +15,7 @@ use Rattle.card.specs.Sound.{judged}
 use Rattle.card.proofs.Formatted.{formatted-sound, formatted-live}
 use Rattle.batch.specs.Batch.{updates, withdrawn, withAdded, applied, recordWords, recordsMost}
 use Rattle.batch.proofs.Meaning.{added-few}
+use Rattle.batch.proofs.Records.{length-updates}
 use Rattle.update.specs.Step.{remains}
 use Rattle.update.specs.Pass.{blocksFrom, blocks, stepLimit}
 use Rattle.update.proofs.Blocks.{blocks-few}
@@ -40,15 +41,7 @@ limit-few b r = go (eqb (blocksFrom b 0 0 r) 0)
     go true = omega arith
     go false = omega (arith, blocks-few b 0 0 r)
 
-updates-few : (b : List ℕ) → 4 * length (updates b) ≤ length b
-unfolding updates
-updates-few [] = omega arith
-updates-few (k ∷ []) = omega arith
-updates-few (k ∷ t ∷ []) = omega arith
-updates-few (k ∷ t ∷ a ∷ []) = omega arith
-updates-few (k ∷ t ∷ a ∷ z ∷ ws) = omega (arith, updates-few ws)
-
-remains-few : (b : List ℕ) → 4 * length (remains freshCard b) ≤ length b
+remains-few : (b : List ℕ) → 5 * length (remains freshCard b) ≤ length b
 unfolding remains above applied
 remains-few b =
     let us = updates b in
@@ -59,7 +52,7 @@ remains-few b =
       length-keep (λ x. not (withdrawn us x)) (withAdded us (live freshCard)),
       added-few us (live freshCard),
       ap length fresh-live,
-      updates-few b,
+      length-updates b,
     )
 
 pub few-steps : (b : List ℕ) → length b ≤ recordWords * recordsMost → stepsMost freshCard b < wordLimit

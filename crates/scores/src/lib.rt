@@ -8,7 +8,7 @@ ghost use Rattle.card.specs.Sound.{judged};
 ghost use Rattle.scores.specs.Outcome.{stepsMost, pass, outcome, printedLine, printed};
 
 // The most words of a batch, the sizes of the card, and its words.
-const BATCH_WORDS: usize = 16_384;
+const BATCH_WORDS: usize = 20_480;
 
 const BLOCK_WORDS: u32 = 8;
 

@@ -15,14 +15,15 @@ use Rattle.card.specs.Layout.{blockSize, placeCount, oldStart, oldLength, newLe
 use Rattle.card.proofs.Circle.{length-around}
 use Rattle.card.proofs.Facts.{Facts}
 use Rattle.card.proofs.Live.{live-above}
-use Rattle.batch.specs.Batch.{updates, anyUpdate}
-use Rattle.batch.proofs.Meaning.{removed, applied-removals}
+use Rattle.batch.specs.Batch.{updates, anyUpdate, batchNumber}
+use Rattle.batch.proofs.InOrder.{empty-in-order, applied-removals}
+use Rattle.batch.proofs.Meaning.{removed}
 use Rattle.update.specs.Step.{remains, spent, nextBoundary, freed, grown, crowded}
 use Rattle.update.proofs.Room.{Kept, Last, Room, keep-above, kept-none, at-most-one, whole-spent, room-next, room-last}
 
--- a batch only removes
+-- a batch in order that only removes
 abbrev pub Removals : List ℕ → Type 0
-Removals b = anyUpdate (λ u. eqb (u .kind) 1) (updates b) ≡ false
+Removals b = (batchNumber b ≡ 0) × (anyUpdate (λ u. eqb (u .kind) 1) (updates b) ≡ false)
 
 -- what the batch leaves standing
 abbrev pub stays : List ℕ → ℕ → Bool
@@ -32,7 +33,7 @@ stays b x = not (removed (updates b) x)
 pub remains-removals : (c b : List ℕ) → Facts c → Removals b → remains c b ≡ Kept (stays b) c (boundary c) (oldPlaces c)
 unfolding remains
 remains-removals c b f o =
-    rw (applied-removals (updates b) (live c) o, ← keep-above (stays b) (boundary c) (live c), live-above c f)
+    rw (applied-removals b (live c) (o .0) (o .1), ← keep-above (stays b) (boundary c) (live c), live-above c f)
 
 -- a write leaves a place free if it does so going on, and if it does so finishing
 pub not-crowded : (c r : List ℕ) →
@@ -69,7 +70,7 @@ stays-all x = refl
 
 empty-removals : Removals []
 unfolding updates anyUpdate
-empty-removals = refl
+empty-removals = (empty-in-order, refl)
 
 -- with an empty batch the first old place is always freed
 pub empty-not-crowded : (c : List ℕ) → Facts c → Words c → crowded c (remains c []) ≡ false

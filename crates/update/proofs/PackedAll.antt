@@ -60,7 +60,7 @@ packs-start c b f q =
     }
 
 -- no card and batch fill so many blocks
-few-blocks : (c b : List ℕ) → Facts c → Words c → length b ≤ 16384 → blocks (blockSize c) (remains c b) ≤ blocksMost
+few-blocks : (c b : List ℕ) → Facts c → Words c → length b ≤ 20480 → blocks (blockSize c) (remains c b) ≤ blocksMost
 unfolding blocks remains applied above live
 few-blocks c b f w h =
     omega (

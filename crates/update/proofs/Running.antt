@@ -24,7 +24,8 @@ use Rattle.card.proofs.Live.{live-rising}
 use Rattle.batch.specs.Batch.{Update, updates, anyUpdate, adds, withdrawn}
 use Rattle.batch.specs.declared.Cursor.{Cursor}
 use Rattle.batch.specs.code.Search.{lesser, leastAdded, Follows}
-use Rattle.batch.proofs.Behind.{Untouched}
+use Rattle.batch.proofs.Behind.{Untouched, untouched-stays}
+use Rattle.batch.proofs.Decisions.{follows-later}
 use Rattle.batch.proofs.Merge.{firstAbove, firstAbove-withAdded, applied-turn, leastAdded-adds, lesser-right}
 use Rattle.update.specs.declared.merge.Merge.{Merge}
 use Rattle.update.specs.declared.old.OldCursor.{OldCursor}
@@ -174,10 +175,10 @@ module _ {c b : List ℕ} {m : Merge} (f : Facts c) (w : Words c) (g : Merges c 
           inside = l;
           sameTerm = λ i. t;
           pairs =
-              r .pairs ∙ ap (λ (l : List ℕ). run ++ l) (one-left f (r .merges) (s .hand) low further some (λ y i k. free y i k .absent) (unfold withdrawn in rw (free _ above (omega arith) .kept)))
+              r .pairs ∙ ap (λ (l : List ℕ). run ++ l) (one-left f (r .merges) (s .hand) low further some (λ y i k. free y i k .absent) (untouched-stays (free _ above (omega arith))))
               ∙ sym (append-assoc run (placeOn c p .rank ∷ []) (left c b (placeOn c p .rank)))
               ∙ ap (λ (l : List ℕ). l ++ left c b (placeOn c p .rank)) (ap (λ k. run ++ k ∷ []) is ∙ sym (run-more c (m .old .term) (m .old .at) n));
-          merges = one-merges f (r .merges) (s .hand) low further some (record { passes = λ x k. r .merges .decides .passes x (omega (arith, above)) });
+          merges = one-merges f (r .merges) (s .hand) low further some (follows-later (r .merges .decides) (omega (arith, above)));
         },
         record {
           term = s .term;

@@ -17,9 +17,10 @@ use Rattle.pair.proofs.Search.{atMost-in, atMost-out}
 use Rattle.block.specs.code.Scan.{readsOn}
 use Rattle.card.specs.Layout.{live}
 use Rattle.card.proofs.Facts.{Facts}
-use Rattle.batch.specs.Batch.{updates, applied, withdrawn, batchNumber}
+use Rattle.batch.specs.Batch.{updates, applied, batchNumber}
 use Rattle.batch.specs.declared.Cursor.{Cursor}
-use Rattle.batch.proofs.Behind.{Untouched}
+use Rattle.batch.proofs.Behind.{Untouched, untouched-stays}
+use Rattle.batch.proofs.Decisions.{follows-later}
 use Rattle.update.specs.declared.forecast.Filling.{Filling}
 use Rattle.update.specs.declared.merge.Merge.{Merge}
 use Rattle.update.specs.declared.old.OldCursor.{OldCursor}
@@ -130,14 +131,13 @@ module _ {c b : List ℕ} {k bound addition : ℕ} {d : Cursor} {o : OldCursor} 
     up = one-above s (g .merges) (g .hand) low advanced some
 
     there : Merges c b place
-    there = one-merges s (g .merges) (g .hand) low advanced some (record { passes = λ x l. g .merges .decides .passes x (omega (arith, up)) })
+    there = one-merges s (g .merges) (g .hand) low advanced some (follows-later (g .merges .decides) (omega (arith, up)))
 
     pub entry-merged : Merged c b last place
-    unfolding withdrawn
     entry-merged =
         merged-kept (λ q. omega arith)
         (one-left s (g .merges) (g .hand) low advanced some (λ y l m. free y (omega (arith, g .further)) (omega (arith, higher)) .absent)
-        (rw (free (first .rank) (omega (arith, g .further, up)) (omega (arith, higher)) .kept)))
+        (untouched-stays (free (first .rank) (omega (arith, g .further, up)) (omega (arith, higher)))))
         there
 
     pub entry-runs : Runs c b place (first .count)

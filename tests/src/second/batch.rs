@@ -1,11 +1,13 @@
-// The batch: its records, the judgement of its form and order, its meaning for a set of pairs.
+// The batch: its records, the judgement of its form, arrival numbers and order, its meaning for a set
+// of pairs.
 
 use std::collections::BTreeSet;
 
 use super::layout::Pair;
 use super::number;
 
-pub const RECORD_WORDS: usize = 4;
+/// Kind, term, from, to and, since slip 7 of document 02, the arrival number.
+pub const RECORD_WORDS: usize = 5;
 pub const MOST_RECORDS: usize = 4096;
 pub const ADD: u32 = 1;
 pub const REMOVE: u32 = 2;
@@ -17,11 +19,12 @@ pub struct Record {
     pub term: u32,
     pub from: u32,
     pub to: u32,
+    pub arrival: u32,
 }
 
 impl Record {
     pub fn words(&self) -> [u32; RECORD_WORDS] {
-        [self.kind, self.term, self.from, self.to]
+        [self.kind, self.term, self.from, self.to, self.arrival]
     }
 
     /// Whether no position lies from from to to; only a removal may have such a range (document 02,
@@ -30,6 +33,7 @@ impl Record {
         self.from > self.to
     }
 
+    /// Number 6 skips the arrival number (document 02, slip 7).
     fn is_well_formed(&self) -> bool {
         let kind_known = [ADD, REMOVE, ANNUL].contains(&self.kind);
         let term_of_its_kind = (self.term == 0) == (self.kind == ANNUL);
@@ -48,11 +52,12 @@ pub fn records(batch: &[u32]) -> Vec<Record> {
             term: words[1],
             from: words[2],
             to: words[3],
+            arrival: words[4],
         })
         .collect()
 }
 
-/// 6, 7 or 0.
+/// 6, 14, 7 or 0: 14 is checked after 6 and before 7 (document 02, slip 7).
 pub fn judge_batch(batch: &[u32]) -> u32 {
     if batch.len() % RECORD_WORDS != 0 || batch.len() / RECORD_WORDS > MOST_RECORDS {
         return number::BATCH_FORM;
@@ -61,6 +66,9 @@ pub fn judge_batch(batch: &[u32]) -> u32 {
     if !records.iter().all(Record::is_well_formed) {
         return number::BATCH_FORM;
     }
+    if !arrivals_hold(&records) {
+        return number::BATCH_ARRIVAL;
+    }
     let falls = |two: &[Record]| (two[1].term, two[1].from) < (two[0].term, two[0].from);
     if records.windows(2).any(falls) {
         return number::BATCH_ORDER;
@@ -68,38 +76,59 @@ pub fn judge_batch(batch: &[u32]) -> u32 {
     number::DONE
 }
 
-/// The set less everything removed, plus everything added, for a batch judged 0. A range without a
-/// position removes nothing.
-pub fn applied(batch: &[u32], set: &BTreeSet<Pair>) -> BTreeSet<Pair> {
-    let mut records = records(batch);
-    records.retain(|record| !record.is_empty_range());
-    let mut result = set.clone();
-    for record in records.iter().filter(|record| record.kind == REMOVE) {
-        let stretch = (record.term, record.from)..=(record.term, record.to);
-        let removed: Vec<Pair> = result.range(stretch).copied().collect();
-        for pair in removed {
-            result.remove(&pair);
-        }
-    }
-    if records.iter().any(|record| record.kind == ANNUL) {
-        let kept = positions_kept(&records, &result);
-        result.retain(|pair| kept.contains(&pair.1));
-    }
-    for record in records.iter().filter(|record| record.kind == ADD) {
-        result.insert((record.term, record.from));
-    }
-    result
+/// Whether no arrival number is 0 or used twice (document 02, slip 7). A range without a position has
+/// one like any other record.
+fn arrivals_hold(records: &[Record]) -> bool {
+    let mut arrivals: Vec<u32> = records.iter().map(|record| record.arrival).collect();
+    arrivals.sort_unstable();
+    let used_twice = arrivals.windows(2).any(|two| two[0] == two[1]);
+    !arrivals.contains(&0) && !used_twice
 }
 
-/// The positions of a set, of whatever terms, that no record takes from every term.
-fn positions_kept(records: &[Record], set: &BTreeSet<Pair>) -> BTreeSet<u32> {
-    let mut kept: BTreeSet<u32> = set.iter().map(|pair| pair.1).collect();
-    for record in records.iter().filter(|record| record.kind == ANNUL) {
-        let stretch = record.from..=record.to;
-        let taken: Vec<u32> = kept.range(stretch).copied().collect();
-        for position in taken {
-            kept.remove(&position);
+/// The set after a batch judged 0. "Of all records touching a pair, the latest wins" (document 02,
+/// slip 7): the records are taken as they arrived, and each says anew of the pairs it touches whether
+/// they are in the set. A pair that none touches stays as it was.
+pub fn applied(batch: &[u32], set: &BTreeSet<Pair>) -> BTreeSet<Pair> {
+    let mut records = records(batch);
+    records.sort_by_key(|record| record.arrival);
+    // The same set by position, where some record removes under every term.
+    let annuls = records.iter().any(|record| record.kind == ANNUL);
+    let mut by_position: BTreeSet<(u32, u32)> = BTreeSet::new();
+    if annuls {
+        by_position.extend(set.iter().map(|&(term, position)| (position, term)));
+    }
+    let mut result = set.clone();
+    for record in records {
+        let Record {
+            kind,
+            term,
+            from,
+            to,
+            ..
+        } = record;
+        // A range without a position touches nothing (document 02, slip 5).
+        if record.is_empty_range() {
+            continue;
+        }
+        if kind == ADD {
+            result.insert((term, from));
+            if annuls {
+                by_position.insert((from, term));
+            }
+            continue;
+        }
+        let removed: Vec<Pair> = if kind == REMOVE {
+            result.range((term, from)..=(term, to)).copied().collect()
+        } else {
+            let under_every_term = by_position.range((from, u32::MIN)..=(to, u32::MAX));
+            under_every_term
+                .map(|&(position, term)| (term, position))
+                .collect()
+        };
+        for (term, position) in removed {
+            result.remove(&(term, position));
+            by_position.remove(&(position, term));
         }
     }
-    kept
+    result
 }

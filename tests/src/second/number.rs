@@ -14,3 +14,4 @@ pub const ANSWER_WORDS: u32 = 10;
 pub const PAGE_MEMORY: u32 = 11;
 pub const SCORES_LINE: u32 = 12;
 pub const SCORES_LINES: u32 = 13;
+pub const BATCH_ARRIVAL: u32 = 14;

@@ -39,8 +39,10 @@ pub fn lines(bytes: &[u8]) -> Vec<&[u8]> {
     lines
 }
 
-/// The record of a line, none where the line has another form.
-pub fn record(line: &[u8]) -> Option<Record> {
+/// The record of a line, none where the line has another form. "The line's number is the arrival
+/// number" (document 02, slip 7); lines are counted from 1.
+pub fn record(line: &[u8], counted: usize) -> Option<Record> {
+    let arrival = counted as u32;
     let text = std::str::from_utf8(line).ok()?;
     let fields: Vec<&str> = text.split('\t').collect();
     match fields[..] {
@@ -49,12 +51,14 @@ pub fn record(line: &[u8]) -> Option<Record> {
             term: figure(term)?,
             from: figure(position)?,
             to: figure(position)?,
+            arrival,
         }),
         ["R", term, from, to] => Some(Record {
             kind: REMOVE,
             term: figure(term)?,
             from: figure(from)?,
             to: figure(to)?,
+            arrival,
         }),
         _ => None,
     }
@@ -70,7 +74,7 @@ fn figure(text: &str) -> Option<u32> {
 /// The number 12 or 13 of the first line that has one, and which line it is, counted from 1.
 pub fn fault(bytes: &[u8]) -> Option<(u32, usize)> {
     for (line, counted) in lines(bytes).into_iter().zip(1..) {
-        if record(line).is_none() {
+        if record(line, counted).is_none() {
             return Some((number::SCORES_LINE, counted));
         }
         if counted > MOST_RECORDS {
@@ -82,8 +86,10 @@ pub fn fault(bytes: &[u8]) -> Option<(u32, usize)> {
 
 /// The words of a file's batch, for a file without a fault.
 pub fn batch(bytes: &[u8]) -> Vec<u32> {
-    let read = |line| record(line).expect("a line of a file without a fault");
-    let mut records: Vec<Record> = lines(bytes).into_iter().map(read).collect();
+    let mut records: Vec<Record> = Vec::new();
+    for (line, counted) in lines(bytes).into_iter().zip(1..) {
+        records.push(record(line, counted).expect("a line of a file without a fault"));
+    }
     // This sort leaves equal ones in their order.
     records.sort_by_key(|record| (record.term, record.from));
     records.iter().flat_map(Record::words).collect()

@@ -13,7 +13,7 @@ abbrev Inv-loop : tie.InvT-loop
 Inv-loop batch from above n₀ n = nextAddition batch from above ≡ nextAddition batch n above
 
 abbrev μ-loop : tie.MeasureT-loop
-μ-loop batch from above n₀ n = length batch / 4 - n
+μ-loop batch from above n₀ n = length batch / 5 - n
 
 loop-holds : tie.Need-loop-holds Inv-loop μ-loop
 loop-holds c = refl

@@ -2,10 +2,10 @@
 use Prim.Native.Nat.{ℕ, zero, suc, max, _+_, _-_, _/_}
 use mathlib.Core.Bool.{Bool, false, cond, _&&_, _||_}
 use mathlib.Core.List.{List, [], _∷_}
-use lib.ListN.{getD}
+use lib.ListN.{take, getD}
 use lib.Dec.{ltb, leb, eqb}
 use Rattle.pair.specs.Rank.{rank}
-use Rattle.batch.specs.Batch.{Update}
+use Rattle.batch.specs.Batch.{Update, anyUpdate}
 
 -- where the records start
 unfoldable pub starts : List Update → List ℕ
@@ -41,3 +41,7 @@ begun xs n j p = cond (stands xs n j p) j (cond (stands xs n (j + 1) p) (j + 1) 
 unfoldable pub reached : List ℕ → ℕ → ℕ → Bool
 reached ts zero p = false
 reached ts (suc i) p = leb p (getD ts i 0)
+
+-- one of the first j records reaches to p and arrived after a
+unfoldable pub annulsLater : List Update → ℕ → ℕ → ℕ → Bool
+annulsLater us j p a = anyUpdate (λ u. leb p (u .to) && ltb a (u .arrival)) (take j us)

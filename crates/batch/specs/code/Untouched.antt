@@ -17,7 +17,7 @@ highestPosition = 4294967295
 unfoldable pub beforeRecord : List ℕ → ℕ → ℕ → ℕ
 beforeRecord b n x =
     let u = recordAt b n in
-    cond (leb (length b / 4) n) highestPosition
+    cond (leb (length b / 5) n) highestPosition
     (cond (leb (rank (u .term) (u .from)) x) 0 (cond (eqb (u .term) (term x)) (u .from - 1) highestPosition))
 
 -- up to where the next of n rounds starts, and to z at most, unless one reaches to the position p
@@ -31,11 +31,11 @@ unfoldable pub untouched : List ℕ → List ℕ → Cursor → ℕ → ℕ
 untouched b ts k x =
     cond (leb x (k .passed .reach)) 0
     (cond (eqb (length ts) 0) (beforeRecord b (k .passed .next) x)
-    (beforeRound (starts (updates b)) ts (min (length ts) (length b / 4)) (k .begun) (position x) (beforeRecord b (k .passed .next) x)))
+    (beforeRound (starts (updates b)) ts (min (length ts) (length b / 5)) (k .begun) (position x) (beforeRecord b (k .passed .next) x)))
 
 -- the number of a pair before which no record touches the pairs behind the pair, of any term; 0 where nothing is found
 unfoldable pub quietBefore : List ℕ → List ℕ → Cursor → ℕ → ℕ
 quietBefore b ts k x =
     let u = recordAt b (k .passed .next) in
     cond (not (eqb (length ts) 0)) 0
-    (cond (leb x (k .passed .reach)) 0 (cond (leb (length b / 4) (k .passed .next)) 18446744073709551615 (rank (u .term) (u .from))))
+    (cond (leb x (k .passed .reach)) 0 (cond (leb (length b / 5) (k .passed .next)) 18446744073709551615 (rank (u .term) (u .from))))

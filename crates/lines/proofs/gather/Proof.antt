@@ -33,17 +33,14 @@ part-read-line-end c = found-inside lineFeed _ _ (let h = c .before .loop-test .
 read-line-requires : tie.Need-read-line-requires Inv-loop μ-loop
 read-line-requires c κs = search needs
 
-add-t13 : tie.Need-add-t13 Inv-loop μ-loop
-add-t13 c = record { fits = omega (arith, c .before .before .before .before .before .loop .inv .few) }
+add-line : tie.Need-add-line Inv-loop μ-loop
+add-line c = record { fits = omega (arith, c .before .before .before .before .loop .inv .few) }
 
 same-length : tie.Need-same-length Inv-loop μ-loop
 same-length c = gathering-length (c .before .before .before .before .before .loop .inv)
 
 returns : tie.Need-returns Inv-loop μ-loop
 returns c = gathering-other (c .before .read-line .result) (c .before .before .before .before .before .loop .inv) (c .before .before .before .before .loop-test .taken) (c .before .before .before .before2 .ensures) (c .before .read-line .ensures) (c .if1 .taken)
-
-add-t14 : tie.Need-add-t14 Inv-loop μ-loop
-add-t14 c = record { fits = omega (arith, c .before .before .before .before .before .before .loop .inv .few) }
 
 same-length-2 : tie.Need-same-length-2 Inv-loop μ-loop
 same-length-2 c = gathering-length (c .before .before .before .before .before .before .loop .inv)
@@ -54,13 +51,13 @@ returns-2 c = gathering-many (c .before .before .read-line .result) (c .before .
 mul-put-record : tie.Need-mul-put-record Inv-loop μ-loop
 mul-put-record c = record { fits = omega (arith, c .before .before .before .before .before .before .before .loop .inv .few) }
 
+cast-put-record : tie.Need-cast-put-record Inv-loop μ-loop
+cast-put-record c = record { fits = omega (arith, c .before .before .before .before .before .before .before .loop .inv .few) }
+
 put-record-requires : tie.Need-put-record-requires Inv-loop μ-loop
 put-record-requires c κs =
     let g = c .before .before .before .before .before .before .before .loop .inv in
     omega (arith, g .few, gathering-length g, c .before .before .before .before .before .before .before .before .before .before .pre, c .before .if2 .left)
-
-add-count : tie.Need-add-count Inv-loop μ-loop
-add-count c = record { fits = omega (arith, c .before .before .before .before .before .before .before .before .before .before .loop .inv .few) }
 
 -- the line's record stands behind the others
 turn :
@@ -106,15 +103,14 @@ gather-spec =
     part-read-line-start
     part-read-line-end
     read-line-requires
-    add-t13
+    add-line
     same-length
     returns
-    add-t14
     same-length-2
     returns-2
     mul-put-record
+    cast-put-record
     put-record-requires
-    add-count
     add-at
     loop-less
     loop-again

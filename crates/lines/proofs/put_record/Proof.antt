@@ -40,6 +40,15 @@ mul-records-4 c = search needs
 slice-write-records-4 : tie.Need-slice-write-records-4
 slice-write-records-4 c = simp length-set (omega arith)
 
+add-records-4 : tie.Need-add-records-4
+add-records-4 c = search needs
+
+mul-records-5 : tie.Need-mul-records-5
+mul-records-5 c = search needs
+
+slice-write-records-5 : tie.Need-slice-write-records-5
+slice-write-records-5 c = simp length-set (omega arith)
+
 same-length : tie.Need-same-length
 same-length c = search needs
 
@@ -48,7 +57,8 @@ returns c =
     let one : c .args .at + 1 ≡ suc (c .args .at) = omega arith in
     let two : c .args .at + 2 ≡ suc (suc (c .args .at)) = omega arith in
     let three : c .args .at + 3 ≡ suc (suc (suc (c .args .at))) = omega arith in
-    rw (one, two, three)
+    let four : c .args .at + 4 ≡ suc (suc (suc (suc (c .args .at)))) = omega arith in
+    rw (one, two, three, four)
 
 pub put-record-spec : {M : Type 1} → statement M
 put-record-spec =
@@ -65,5 +75,8 @@ put-record-spec =
     add-records-3
     mul-records-4
     slice-write-records-4
+    add-records-4
+    mul-records-5
+    slice-write-records-5
     same-length
     returns)

@@ -13,8 +13,8 @@ use Rattle.scores.proofs.outcome_of.Statement.{statement}
 use Rattle.scores.proofs.outcome_of.Tie as tie
 
 -- the memory has room for the largest batch
-room : recordWords * recordsMost ≤ length {A = ℕ} (replicate 16384 0)
-room = omega (arith, length-replicate {A = ℕ} 16384 0)
+room : recordWords * recordsMost ≤ length {A = ℕ} (replicate 20480 0)
+room = omega (arith, length-replicate {A = ℕ} 20480 0)
 
 slice-aggregate-read-batch : tie.Need-slice-aggregate-read-batch
 slice-aggregate-read-batch c = search needs

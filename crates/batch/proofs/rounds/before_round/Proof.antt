@@ -44,7 +44,7 @@ start-at-requires c κs = let r = c .before .before in omega (arith, c .if2 .lef
 
 -- where the next round starts
 next : (c : tie.After-start-at) → let a = c .before .before .before .before .before .before .before .before .args in
-    beforeRound (starts (updates (now (a .batch)))) (now (a .reaches)) (min (length (now (a .reaches))) (length (now (a .batch)) / 4)) (a .at) (a .position) (a .to)
+    beforeRound (starts (updates (now (a .batch)))) (now (a .reaches)) (min (length (now (a .reaches))) (length (now (a .batch)) / 5)) (a .at) (a .position) (a .to)
     ≡ cond (ltb (a .to) (c .start-at .result)) (a .to) (c .start-at .result - 1)
 unfolding beforeRound
 next c =

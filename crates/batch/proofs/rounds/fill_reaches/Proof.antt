@@ -11,7 +11,7 @@ abbrev Inv-loop : tie.InvT-loop
 Inv-loop batch reaches₀ reach₀ n₀ reaches reach n = Filling batch reaches₀ reaches reach n
 
 abbrev μ-loop : tie.MeasureT-loop
-μ-loop batch reaches₀ reach₀ n₀ reaches reach n = length batch / 4 - n
+μ-loop batch reaches₀ reach₀ n₀ reaches reach n = length batch / 5 - n
 
 loop-holds : tie.Need-loop-holds Inv-loop μ-loop
 loop-holds c = filling-start _ _
