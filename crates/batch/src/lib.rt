@@ -366,7 +366,7 @@ fn latest_of(batch: &[u32], records: usize, rank: u64) -> Latest
 }
 
 // The latest of the first records that reaches to a pair: it is sought anew only where the one in hand arrived after the pair's addition and
-// does not reach to the pair, so that it never will again. A pass makes no more such searches than it has removals.
+// does not reach to the pair, so that it never will again. A step makes no more such searches than its batch has removals.
 fn renewed(batch: &[u32], records: usize, latest: Latest, rank: u64, arrived: u32) -> Latest
     ensures { λ r. ⌜ r ≡ renewed (updates (now (batch .entry))) records latest rank arrived ⌝ }
 {
