@@ -16,7 +16,8 @@ use Rattle.batch.specs.code.Search.{recordAt, startingTo, addedWith, add
 use Rattle.batch.specs.code.Untouched.{highestPosition, beforeRecord, beforeRound, untouched, quietBefore}
 use Rattle.batch.proofs.Annulling.{rounds-few, begun-most, place-halved}
 use Rattle.batch.proofs.Arriving.{latest-none}
-use Rattle.batch.proofs.Decisions.{any-removes, rounds-reached, asked-facts}
+use Rattle.batch.proofs.Covering.{any-removes, rounds-reached}
+use Rattle.batch.proofs.Decisions.{asked-facts}
 use Rattle.batch.proofs.InOrder.{inOrder, formed-updates}
 use Rattle.batch.proofs.Search.{passed-here}
 use Rattle.batch.proofs.Records.{length-updates, update-at, update-end}

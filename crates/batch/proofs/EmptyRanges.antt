@@ -17,7 +17,7 @@ use Rattle.repeat.specs.Repeats.{repeats}
 use Rattle.repeat.proofs.Twice.{eqb-sym, exchange}
 use Rattle.batch.specs.Batch.{Update, updates, covers, adds, removes, withdrawn, withAdded, applied, illFormed, falls, arrivals, illNumbered, batchNumber}
 use Rattle.batch.specs.Claims.{EmptyRangeRemovesNothing, EmptyRangeTakenOut, EmptyRangePutIn}
-use Rattle.batch.proofs.Any.{any-with}
+use Rattle.batch.proofs.Any.{swap, any-with}
 use Rattle.batch.proofs.Arriving.{latest-with}
 use Rattle.batch.proofs.InOrder.{InOrder, inOrder}
 use Rattle.batch.proofs.Records.{updates-append}
@@ -60,11 +60,6 @@ arrivals-with : (us vs : List Update) (u : Update) (f : ℕ → Bool) → any f 
 unfolding arrivals any
 arrivals-with [] vs u f = refl
 arrivals-with (w ∷ us) vs u f = rw (arrivals-with us vs u f) (swap (f (w .arrival)) (f (u .arrival)) (any f (arrivals (us ++ vs))))
-  where
-    swap : (a b c : Bool) → (a || (b || c)) ≡ (b || (a || c))
-    swap true true c = refl
-    swap true false c = refl
-    swap false b c = refl
 
 repeats-with : (us vs : List Update) (u : Update) →
     repeats (arrivals (us ++ u ∷ vs)) ≡ (any (eqb (u .arrival)) (arrivals (us ++ vs)) || repeats (arrivals (us ++ vs)))

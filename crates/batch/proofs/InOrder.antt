@@ -107,7 +107,7 @@ words-updates (k ∷ t ∷ []) w = tt
 words-updates (k ∷ t ∷ a ∷ []) w = tt
 words-updates (k ∷ t ∷ a ∷ z ∷ []) w = tt
 words-updates (k ∷ t ∷ a ∷ z ∷ n ∷ ws) w =
-    (record { kindWord = w 0; termWord = w 1; fromWord = w 2; toWord = w 3; arrivalWord = w 4 }, words-updates ws (λ i. w (suc (suc (suc (suc (suc i)))))))
+    (record { termWord = w 1; fromWord = w 2 }, words-updates ws (λ i. w (suc (suc (suc (suc (suc i)))))))
 
 -- the updates of a batch in order are well formed
 pub formed-updates : (b : List ℕ) → batchNumber b ≡ 0 → EachUpdate Formed (updates b)

@@ -2,6 +2,7 @@ pub mod Annulling
 pub mod Any
 pub mod Arriving
 pub mod Claims
+pub mod Covering
 pub mod Deciding
 pub mod Decisions
 pub mod EmptyRanges
@@ -13,4 +14,5 @@ pub mod Merge
 pub mod Numbering
 pub mod Records
 pub mod Search
+pub mod Serving
 pub mod Behind

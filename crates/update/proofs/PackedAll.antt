@@ -30,10 +30,10 @@ use Rattle.update.specs.declared.forecast.Tally.{Tally}
 use Rattle.update.specs.declared.merge.Merge.{Merge}
 use Rattle.update.specs.declared.old.OldCursor.{OldCursor}
 use Rattle.update.specs.Forecast.{freeWrites, foreseen, outlook}
-use Rattle.update.specs.Pass.{blocks, stepLimit}
+use Rattle.update.specs.Pass.{blocks, limitFor, stepLimit}
 use Rattle.update.specs.Step.{remains, freed}
 use Rattle.update.specs.code.Merge.{left, Merged, runAt, placeAlong, Runs}
-use Rattle.update.specs.code.Tally.{blocksMost, limitFor, freeWith, Told, Counts, Addable, Added, Packs, PackedAll}
+use Rattle.update.specs.code.Tally.{blocksMost, freeWith, Told, Counts, Addable, Added, Packs, PackedAll}
 use Rattle.update.proofs.Blocks.{blocks-none, blocks-few}
 use Rattle.update.proofs.Cursor.{positions-room}
 use Rattle.update.proofs.Grown.{Remaining}

@@ -1,5 +1,5 @@
 -- Will it fit: what an uncut run of a batch comes to, told from card and batch.
-use Prim.Native.Nat.{ℕ, zero, suc, max, _+_, _*_, _-_, _≤_, _<_}
+use Prim.Native.Nat.{ℕ, zero, suc, max, _+_, _-_, _≤_, _<_}
 use mathlib.Core.Path.{_≡_}
 use mathlib.Core.Bool.{Bool, true, false, cond, not}
 use mathlib.Core.List.{List, [], _∷_}
@@ -13,7 +13,7 @@ use Rattle.batch.specs.Batch.{batchNumber}
 use Rattle.update.specs.declared.forecast.ForecastAnswer.{ForecastAnswer}
 use Rattle.update.specs.declared.forecast.ForecastAnswer.the-variants.{Refused, Finishes, Stops}
 use Rattle.update.specs.Step.{remains, freed, step}
-use Rattle.update.specs.Pass.{blocks, stepLimit, Run, configurations, uncut}
+use Rattle.update.specs.Pass.{blocks, limitFor, stepLimit, Run, configurations, uncut}
 
 -- the paper's values for each case
 abbrev pub numberOf : ForecastAnswer → ℕ
@@ -78,7 +78,7 @@ pub record AfterStep (w : ℕ) (before after : ForecastAnswer) : Type 0 where
   pub number : numberOf after ≡ 0
   pub finishes : finishesOf after ≡ finishesOf before
   pub blocks : blocksOf after + w ≡ blocksOf before
-  pub limit : limitOf after ≡ cond (eqb (blocksOf after) 0) 1 (3 * blocksOf after)
+  pub limit : limitOf after ≡ limitFor (blocksOf after)
   pub writes : writesOf after + cond (finishesOf before) 0 w ≡ writesOf before
 
 -- the forecast agrees with the uncut run: as many steps as the limit, or more, come to what it foretells, and so does every forecast on the way

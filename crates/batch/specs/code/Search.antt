@@ -30,13 +30,10 @@ recordAt b n =
 abbrev pub updateOf : Record → Update
 updateOf u = record { kind = u .kind; term = u .term; from = u .from; to = u .to; arrival = u .arrival }
 
--- its words are 32-bit words
+-- its term and its from are 32-bit words
 pub record UpdateWords (u : Update) : Type 0 where
-  pub kindWord : u .kind < wordLimit
   pub termWord : u .term < wordLimit
   pub fromWord : u .from < wordLimit
-  pub toWord : u .to < wordLimit
-  pub arrivalWord : u .arrival < wordLimit
 
 -- the update adds a pair above k
 unfoldable pub addsAbove : ℕ → Update → Bool

@@ -1,5 +1,5 @@
 -- The blocks that what remains fills, counted as they are packed.
-use Prim.Native.Nat.{ℕ, _+_, _*_, _-_, _≤_}
+use Prim.Native.Nat.{ℕ, _+_, _-_, _≤_}
 use mathlib.Core.Path.{_≡_}
 use mathlib.Core.Bool.{true, cond, _&&_}
 use mathlib.Core.List.{List, [], _∷_, _++_}
@@ -23,10 +23,6 @@ use Rattle.update.specs.code.Old.{Spends}
 -- more blocks than any card and batch fill
 abbrev pub blocksMost : ℕ
 blocksMost = 2097152
-
--- the step limit for so many blocks
-abbrev pub limitFor : ℕ → ℕ
-limitFor g = cond (eqb g 0) 1 (3 * g)
 
 -- how many configuration writes leave a place free with one block more, where n places are new and p in all, and the write leaves so many old ones
 unfoldable pub freeWith : ℕ → ℕ → Tally → ℕ → ℕ
