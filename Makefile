@@ -12,6 +12,9 @@ HOST_HEADERS = $(wildcard host/*.h)
 BENCH_FILES = bench/bench.c bench/bench.h
 BENCH_CC = $(CC) $(WARNINGS) -O3 -Iinclude -Ibench
 TEST_FILES = tests/c/test_gameindex.c tests/c/format_judge.c tests/c/step.c tests/c/forecast.c tests/c/lookup.c tests/c/page.c tests/c/scores.c tests/c/cases.c tests/c/arrival.c
+FAULTS_FILES = tests/c/fault_commands.c tests/c/faults.c tests/c/cuts.c tests/c/medium.c tests/c/calls.c tests/c/lock_rules.c tests/c/indexes.c
+FAULTS_CALLS = main open close read write pread pwrite fdatasync fsync fstat lstat stat access realpath rename renameat2 unlink fcntl getpid clock_gettime nanosleep malloc calloc realloc strdup strndup
+BESIDE_FILES = $(wildcard tests/c/beside*.c)
 C_FILES = $(wildcard include/*.h host/*.[ch] tests/c/*.[ch] bench/*.[ch])
 
 .DELETE_ON_ERROR:
@@ -87,12 +90,20 @@ target/bin/scorekeeper: $(SOURCES)
 target/gameindex: $(HOST_FILES) $(HOST_HEADERS) $(HEADER) $(LIBRARY)
 	$(CC) $(WARNINGS) $(OPTIMISE) -Iinclude -o $@ $(HOST_FILES) $(LIBRARY)
 
-# the host program as it is, but for a medium apart from the card file, which power cuts and failing syncs are tried on
+# the host program as it is, but for a medium apart from its files, which power cuts, failing writes and failing syncs are tried on
 target/gameindex_cut: $(HOST_FILES) $(HOST_HEADERS) tests/c/power_cut.c $(HEADER) $(LIBRARY)
-	$(CC) $(WARNINGS) $(OPTIMISE) -Iinclude -Wl,--wrap=main,--wrap=pwrite,--wrap=fdatasync,--wrap=fsync -o $@ $(HOST_FILES) tests/c/power_cut.c $(LIBRARY)
+	$(CC) $(WARNINGS) $(OPTIMISE) -Iinclude -Wl,--wrap=main,--wrap=pwrite,--wrap=write,--wrap=fdatasync,--wrap=fsync,--wrap=rename,--wrap=renameat2,--wrap=unlink -o $@ $(HOST_FILES) tests/c/power_cut.c $(LIBRARY)
+
+# the same with every system call in the tests' hands, and text in parts of six lines
+target/host_faults: $(HOST_FILES) $(HOST_HEADERS) $(FAULTS_FILES) tests/c/faults.h tests/c/medium.h $(HEADER) $(LIBRARY)
+	$(CC) $(WARNINGS) $(OPTIMISE) -Iinclude -DPART_LINES=6 $(FAULTS_CALLS:%=-Wl,--wrap=%) -o $@ $(HOST_FILES) $(FAULTS_FILES) $(LIBRARY)
 
 target/test_gameindex: $(TEST_FILES) tests/c/small_cards.h $(HEADER) $(LIBRARY)
 	$(CC) $(WARNINGS) $(OPTIMISE) -Iinclude -o $@ $(TEST_FILES) $(LIBRARY)
+
+# runs the host program beside itself on one card
+target/host_beside: $(BESIDE_FILES) tests/c/beside.h $(HEADER) $(LIBRARY)
+	$(CC) $(WARNINGS) $(OPTIMISE) -Iinclude -o $@ $(BESIDE_FILES) $(LIBRARY)
 
 target/bench_judge: bench/judge.c bench/judge_c.c bench/judge_c.h $(BENCH_FILES) $(HEADER) $(LIBRARY)
 	$(BENCH_CC) -o $@ bench/judge.c bench/judge_c.c bench/bench.c $(LIBRARY)

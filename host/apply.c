@@ -10,15 +10,18 @@
 
 #include <inttypes.h>
 #include <stdio.h>
+#include <string.h>
 #include <unistd.h>
 
 #include "batch_file.h"
 #include "card_file.h"
+#include "fits.h"
 #include "gameindex.h"
+#include "pass_file.h"
 #include "report.h"
 
-/* What a run has done so far: its writes by kind, of which each step makes one,
- * and the old places that it freed. */
+/* What a pass has done so far in this run: its writes by kind, of which each step makes
+ * one, and the old places that it freed. */
 struct progress {
     uint32_t number;
     bool finished;
@@ -48,13 +51,14 @@ static int store(const struct card_file *card, uint32_t write, struct progress *
 }
 
 /* Shows on one line of a terminal how far the pass is. */
-static void show_progress(const struct progress *done, const uint32_t *card) {
-    fprintf(stderr, "\rstep %" PRIu64 ": new length %" PRIu32 ", old length %" PRIu32 "\033[K", steps_of(done),
-            card[GI_CONFIG_NEW_LENGTH], card[GI_CONFIG_OLD_LENGTH]);
+static void show_progress(const struct progress *done, const struct input *input, const uint32_t *card) {
+    fprintf(stderr, "\r%sstep %" PRIu64 ": new length %" PRIu32 ", old length %" PRIu32 "\033[K", input->label,
+            steps_of(done), card[GI_CONFIG_NEW_LENGTH], card[GI_CONFIG_OLD_LENGTH]);
 }
 
 /* Makes steps until the pass finishes, a step is refused or the file fails. */
-static int run_pass(const struct card_file *card, const struct batch *batch, struct progress *done) {
+static int run_pass(const struct card_file *card, const struct input *input, struct progress *done) {
+    const struct batch *batch = &input->batch;
     bool terminal = isatty(STDERR_FILENO);
     int status = EXIT_DONE;
     while (status == EXIT_DONE && !done->finished) {
@@ -64,11 +68,14 @@ static int run_pass(const struct card_file *card, const struct batch *batch, str
         done->number = gi_step(card->words, card->length, batch->words, batch->length, &write, &freed, &finished);
         if (done->number != GI_DONE)
             break;
-        status = store(card, write, done);
+        if (finished != 0)
+            status = note_done(card, input);
+        if (status == EXIT_DONE)
+            status = store(card, write, done);
         done->freed += freed;
         done->finished = finished != 0;
         if (terminal)
-            show_progress(done, card->words);
+            show_progress(done, input, card->words);
     }
     if (terminal)
         fprintf(stderr, "\r\033[K");
@@ -77,112 +84,188 @@ static int run_pass(const struct card_file *card, const struct batch *batch, str
 
 /* ---- what is shown at its end */
 
-static void show_writes(const char *path, const char *what, const struct progress *done) {
-    printf("%s: %s; %" PRIu64 " %s%s, as many writes (%" PRIu64 " %s%s, %" PRIu64 " %s, %" PRIu64 " %s%s); %" PRIu64
+static void show_writes(const struct card_file *card, const struct input *input, const char *what,
+                        const struct progress *done) {
+    printf("%s: %s%s; %" PRIu64 " %s%s, as many writes (%" PRIu64 " %s%s, %" PRIu64 " %s, %" PRIu64 " %s%s); %" PRIu64
            " old %s%s freed\n",
-           path, what, COUNTED(steps_of(done), "step"), COUNTED(done->blocks, "block"), done->map_entries,
-           done->map_entries == 1 ? "map entry" : "map entries", COUNTED(done->configurations, "configuration"),
-           COUNTED(done->freed, "place"));
+           card->path, input->label, what, COUNTED(steps_of(done), "step"), COUNTED(done->blocks, "block"),
+           done->map_entries, done->map_entries == 1 ? "map entry" : "map entries",
+           COUNTED(done->configurations, "configuration"), COUNTED(done->freed, "place"));
 }
 
 /* Shows how far a pass came that found no place for its next block. */
-static void show_reached(const char *path, const uint32_t *card) {
-    if (card[GI_CONFIG_NEW_LENGTH] == 0)
-        printf("%s: no pass is open; the index is as it was\n", path);
+static void show_reached(const struct card_file *card) {
+    if (!pass_open(card))
+        printf("%s: no pass is open; the index is as it was\n", card->path);
     else
         printf("%s: the pass stays open: it reached term %" PRIu32 ", position %" PRIu32
                "; beyond that pair the index is as it was; an empty batch finishes the pass\n",
-               path, card[GI_CONFIG_BOUNDARY_TERM], card[GI_CONFIG_BOUNDARY_POSITION]);
+               card->path, card->words[GI_CONFIG_BOUNDARY_TERM], card->words[GI_CONFIG_BOUNDARY_POSITION]);
 }
 
 /* Shows how many removals of a batch have their from above their to: such a range may
  * be meant, and may be two numbers in the wrong order. */
-static void show_empty_ranges(const char *path, const struct batch *batch) {
+static void show_empty_ranges(const struct card_file *card, const struct input *input) {
     uint64_t ranges = 0;
-    for (size_t i = 0; i < batch->length; i += GI_RECORD_WORDS) {
-        const uint32_t *record = &batch->words[i];
+    for (size_t i = 0; i < input->batch.length; i += GI_RECORD_WORDS) {
+        const uint32_t *record = &input->batch.words[i];
         ranges += record[0] != GI_RECORD_ADD && record[2] > record[3];
     }
     if (ranges != 0)
-        printf("%s: %" PRIu64 " %s%s with from above to, which %s nothing\n", path, COUNTED(ranges, "removal"),
-               ranges == 1 ? "removes" : "remove");
+        printf("%s: %s%" PRIu64 " %s%s with from above to, which %s nothing\n", card->path, input->label,
+               COUNTED(ranges, "removal"), ranges == 1 ? "removes" : "remove");
 }
 
-/* Shows what a run has done and gives the exit status for it. */
-static int show_end(const struct card_file *card, const struct batch *batch, const struct progress *done) {
-    if (done->finished) {
-        show_writes(card->path, "the pass is finished", done);
-        show_empty_ranges(card->path, batch);
-        show_configuration(card->words);
-        return EXIT_DONE;
-    }
-    refused(card->path, done->number);
-    if (done->number == GI_CARD_FULL) {
-        show_writes(card->path, "stopped", done);
-        show_reached(card->path, card->words);
-        show_configuration(card->words);
-    }
-    return EXIT_REFUSED;
-}
-
-/* Makes the pass of a batch, shows its end and gives the exit status. */
-static int make_pass(const struct card_file *card, const struct batch *batch) {
+/* Makes the pass of the part in hand, shows its end and gives the exit status. */
+static int make_pass(const struct card_file *card, const struct input *input) {
     struct progress done = {0};
-    int status = run_pass(card, batch, &done);
-    return status == EXIT_DONE ? show_end(card, batch, &done) : status;
-}
-
-/* ---- apply */
-
-int run_apply(char **words) {
-    return batch_on_card(words, true, batch_read, make_pass);
-}
-
-int run_apply_text(char **words) {
-    return batch_on_card(words, true, scores_read, make_pass);
-}
-
-/* ---- annul */
-
-/* Refuses a card that is not sound, and one whose pass is open: the card does not
- * remember the batch of that pass, so another would be mixed into it. */
-static int no_pass_open(const struct card_file *card, uint32_t from, uint32_t to) {
-    uint32_t number = gi_judge(card->words, card->length);
-    if (number != GI_DONE)
-        return refused(card->path, number);
-    if (card->words[GI_CONFIG_NEW_LENGTH] == 0)
-        return EXIT_DONE;
-    printf("%s: refused, a pass is open: finish it with its own batch; if it is this annulment that was cut short, "
-           "annul --resume %s %" PRIu32 " %" PRIu32 " goes on with it\n",
-           card->path, card->path, from, to);
-    return EXIT_REFUSED;
-}
-
-static int annul(char **words, bool resume) {
-    /* one record; its term is 0, its arrival number 1 */
-    static struct batch batch = {.words = {GI_RECORD_ANNUL, 0, 0, 0, 1}, .length = GI_RECORD_WORDS};
-    uint32_t *from = &batch.words[2];
-    uint32_t *to = &batch.words[3];
-    if (!parse_word(words[1], from) || !parse_word(words[2], to)) {
-        fprintf(stderr, "gameindex: FROM and TO are decimal numbers of 32 bits\n");
-        return EXIT_FAULT;
-    }
-    struct card_file card;
-    int status = card_open(&card, words[0], true);
+    int status = run_pass(card, input, &done);
     if (status != EXIT_DONE)
         return status;
-    if (!resume)
-        status = no_pass_open(&card, *from, *to);
+    if (!done.finished) {
+        status = refused(card->path, done.number);
+        show_writes(card, input, "stopped", &done);
+        show_reached(card);
+        show_configuration(card->words);
+        return status;
+    }
+    show_writes(card, input, "the pass is finished", &done);
+    show_empty_ranges(card, input);
+    return EXIT_DONE;
+}
+
+/* ---- a pass that is open, and the note beside the card */
+
+/* Tells that the open pass is another's, or that this is not known, and what can be
+ * done. */
+static int refuse_open(const struct card_file *card, const struct note *note) {
+    fprintf(stderr,
+            "%s: refused, a pass is open: a batch is in the index up to term %" PRIu32 ", position %" PRIu32
+            ", and not beyond\n",
+            card->path, card->words[GI_CONFIG_BOUNDARY_TERM], card->words[GI_CONFIG_BOUNDARY_POSITION]);
+    if (note->text[0] == '\0')
+        fprintf(
+            stderr,
+            "%s: no file %s.pass tells which batch; if it is the one that you apply now, --resume goes on with it\n",
+            card->path, card->real);
+    else
+        fprintf(stderr,
+                "%s: it is another than the one that you apply now (%s.pass tells which); apply that one again, and it "
+                "goes on\n",
+                card->path, card->real);
+    fprintf(
+        stderr,
+        "%s: or end the pass where it stands, with an empty batch: gameindex apply %s /dev/null; what it moved stays, "
+        "and no game is lost\n",
+        card->path, card->path);
+    return EXIT_REFUSED;
+}
+
+/* Says what an earlier run left undone, where another batch is applied now. */
+static void show_left(const struct card_file *card, const struct note *note, const struct input *input) {
+    const char *text = note_of_other_text(note, input);
+    if (text != NULL)
+        fprintf(stderr, "%s: not applied to its end: %.*s; apply that text again if the rest is wanted\n", card->path,
+                (int)strcspn(text, "\n"), text);
+}
+
+/* Refuses where a pass is open that may be another's. Gives an exit status. */
+static int may_begin(const struct card_file *card, const struct input *input, const struct options *options,
+                     const struct note *note) {
+    bool resumed = (options->given & OPTION_RESUME) && note->text[0] == '\0';
+    if (pass_open(card) && !note->same && input->batch.length != 0 && !resumed)
+        return refuse_open(card, note);
+    show_left(card, note, input);
+    return EXIT_DONE;
+}
+
+/* ---- the parts */
+
+/* Refuses the part in hand where it would not finish, unless it is wanted anyway. */
+static int finds_room(const struct card_file *card, const struct input *input, const struct options *options) {
+    struct forecast told;
+    int status = foretell(&told, card, input);
+    if (status != EXIT_DONE || told.finishes != 0 || (options->given & OPTION_ANYWAY))
+        return status;
+    status = refused(card->path, GI_CARD_FULL);
+    show_no_room(stderr, card, input, &told);
+    fprintf(
+        stderr,
+        "%s: no step of it was made%s; --anyway goes as far as it can: what is moved by then stays in the index, and "
+        "no game is lost\n",
+        card->path, input->part > 0 ? ", and the parts before it are in the index" : "");
+    return status;
+}
+
+/* Notes the part in hand before its first step. */
+static int note_part(const struct card_file *card, struct input *input) {
+    int status = note_begun(card, input);
+    if (status != EXIT_DONE)
+        fprintf(stderr, "%s: %sno step of it was made\n", card->path, input->label);
+    return status;
+}
+
+/* Applies the part in hand and those behind it. After a pass's last step the next part is
+ * noted, or none. */
+static int apply_parts(const struct card_file *card, struct input *input, const struct options *options, bool noted) {
+    for (;;) {
+        int status = finds_room(card, input, options);
+        if (status == EXIT_DONE && !noted)
+            status = note_part(card, input);
+        if (status == EXIT_DONE)
+            status = make_pass(card, input);
+        if (status != EXIT_DONE)
+            return status;
+        if (input->part + 1 == input->parts)
+            break;
+        input_part(input, input->part + 1);
+        status = note_part(card, input);
+        if (status != EXIT_DONE)
+            return status;
+        noted = true;
+    }
+    note_remove(card->real);
+    show_configuration(card->words);
+    return EXIT_DONE;
+}
+
+/* ---- the commands */
+
+/* Applies what was read to the card file of this name, and gives the exit status. */
+static int apply_to(const char *path, struct input *input, const struct options *options) {
+    struct card_file card;
+    struct note note = {0};
+    int status = card_open(&card, path, true, options->wait);
+    if (status != EXIT_DONE)
+        return status;
+    status = card_judge(&card);
     if (status == EXIT_DONE)
-        status = make_pass(&card, &batch);
-    int closed = card_close(&card);
-    return status != EXIT_DONE ? status : closed;
+        status = note_find(&note, &card, input);
+    if (status == EXIT_DONE)
+        status = may_begin(&card, input, options, &note);
+    if (status == EXIT_DONE)
+        status = apply_parts(&card, input, options, note.noted);
+    card_close(&card);
+    return status;
 }
 
-int run_annul(char **words) {
-    return annul(words, false);
+int run_apply(const struct options *options, char **words) {
+    static struct input input;
+    int status = input_read(&input, words[1], options->given & OPTION_TEXT);
+    if (status == EXIT_DONE)
+        status = apply_to(words[0], &input, options);
+    input_close(&input);
+    return status;
 }
 
-int run_annul_resume(char **words) {
-    return annul(words, true);
+int run_annul(const struct options *options, char **words) {
+    /* one record; its term is 0, its arrival number 1 */
+    static struct input input = {
+        .name = "the range",
+        .parts = 1,
+        .batch = {.words = {GI_RECORD_ANNUL, 0, 0, 0, 1}, .length = GI_RECORD_WORDS},
+    };
+    if (!parse_word("FROM", words[1], &input.batch.words[2]) || !parse_word("TO", words[2], &input.batch.words[3]))
+        return EXIT_FAULT;
+    return apply_to(words[0], &input, options);
 }

@@ -1,33 +1,25 @@
 /* Card files, read and written in whole words. */
-#define _POSIX_C_SOURCE 200809L
+#define _XOPEN_SOURCE 700
 
 #include "card_file.h"
 
 #include <errno.h>
 #include <fcntl.h>
-#include <stdarg.h>
-#include <stdio.h>
 #include <stdlib.h>
 #include <string.h>
 #include <sys/stat.h>
 #include <time.h>
 #include <unistd.h>
 
+#include "files.h"
 #include "gameindex.h"
+#include "report.h"
 #include "words.h"
 
-int fault(const char *path, const char *form, ...) {
-    va_list words;
-    va_start(words, form);
-    fprintf(stderr, "gameindex: %s: ", path);
-    vfprintf(stderr, form, words);
-    fputc('\n', stderr);
-    va_end(words);
-    return EXIT_FAULT;
-}
+/* ---- bytes and words */
 
-/* Reads length bytes from the start of a file; false with errno set on an
- * error, errno 0 where the file ends early. */
+/* Reads length bytes from the start of a file; false with errno set on an error, errno
+ * 0 where the file ends early. */
 static bool read_bytes(int file, unsigned char *bytes, size_t length) {
     size_t done = 0;
     while (done < length) {
@@ -61,16 +53,19 @@ static bool write_bytes(int file, const unsigned char *bytes, size_t length, siz
 
 /* Writes count words at word first; false with errno set on an error. */
 static bool write_words(int file, const uint32_t *words, size_t first, size_t count) {
-    unsigned char *bytes = malloc(count * WORD_BYTES);
-    if (bytes == NULL)
-        return false;
+    unsigned char bytes[GI_BLOCK_WORDS_MAX * WORD_BYTES];
     for (size_t i = 0; i < count; i++)
         word_to(bytes + i * WORD_BYTES, words[i]);
-    bool written = write_bytes(file, bytes, count * WORD_BYTES, first * WORD_BYTES);
-    int kept = errno;
-    free(bytes);
-    errno = kept;
-    return written;
+    return write_bytes(file, bytes, count * WORD_BYTES, first * WORD_BYTES);
+}
+
+/* Brings what was written to the medium; false with errno set on an error. */
+static bool sync_words(int file) {
+    int done;
+    do
+        done = fdatasync(file);
+    while (done != 0 && errno == EINTR);
+    return done == 0;
 }
 
 /* Counts the words of an open file. */
@@ -94,7 +89,7 @@ static int read_words(struct card_file *card) {
     card->words = malloc((card->length + 1) * sizeof *card->words);
     int status = EXIT_DONE;
     if (bytes == NULL || card->words == NULL)
-        status = fault(card->path, "no memory for %zu words", card->length);
+        status = no_memory(card->path);
     else if (!read_bytes(card->file, bytes, card->length * WORD_BYTES))
         status = fault(card->path, "%s", errno != 0 ? strerror(errno) : "the file became shorter while it was read");
     else
@@ -104,114 +99,155 @@ static int read_words(struct card_file *card) {
     return status;
 }
 
-/* Keeps the file for this run: for all who read, or for one who writes. A run
- * that was killed has the file until its last write is through, so this waits a
- * while. */
-static int lock(const struct card_file *card, bool writable) {
-    enum { TRIES = 20 };
-    const struct timespec pause = {.tv_nsec = 50 * 1000 * 1000};
-    struct flock whole = {.l_type = writable ? F_WRLCK : F_RDLCK, .l_whence = SEEK_SET};
-    for (int i = 0; i < TRIES; i++) {
-        if (fcntl(card->file, F_SETLK, &whole) == 0)
-            return EXIT_DONE;
-        if (errno != EACCES && errno != EAGAIN)
+/* ---- locks */
+
+/* What of the file a lock is on: its words, or one of two bytes that no card reaches.
+ * Whoever wants the words comes through the gate first, and leaves it when the words are
+ * got: so those who wait come before those who come again, readers and writers alike. */
+enum { LOCK_WORDS = 0, LOCK_GATE = 1 << 30, LOCK_WRITER };
+
+/* Sets or releases a lock without waiting; false with errno set where that fails. */
+static bool set_lock(const struct card_file *card, off_t which, short type) {
+    struct flock lock = {.l_type = type, .l_whence = SEEK_SET, .l_start = which};
+    lock.l_len = which == LOCK_WORDS ? LOCK_GATE : 1;
+    int done;
+    do
+        done = fcntl(card->file, F_SETLK, &lock);
+    while (done != 0 && errno == EINTR);
+    return done == 0;
+}
+
+/* Begins to wait for other runs. */
+static int begin_waiting(const struct card_file *card, struct timespec *since) {
+    return clock_gettime(CLOCK_MONOTONIC, since) == 0 ? EXIT_DONE : fault(card->path, "%s", strerror(errno));
+}
+
+/* Sets a lock, after others have released theirs. */
+static int lock(const struct card_file *card, off_t which, short type, const struct timespec *since) {
+    const struct timespec pause = {.tv_nsec = 1000 * 1000};
+    struct timespec now;
+    while (!set_lock(card, which, type)) {
+        if ((errno != EACCES && errno != EAGAIN) || clock_gettime(CLOCK_MONOTONIC, &now) != 0)
             return fault(card->path, "%s", strerror(errno));
+        int64_t seconds = (int64_t)now.tv_sec - since->tv_sec - (now.tv_nsec < since->tv_nsec);
+        if (seconds >= card->wait)
+            return fault(
+                card->path,
+                "in use by another run; run the same command again later, or with --wait SECONDS to wait longer");
         nanosleep(&pause, NULL);
     }
-    return fault(card->path, "in use by another run");
+    return EXIT_DONE;
+}
+
+/* Releases a lock. Where that fails the run's end releases it. */
+static void unlock(const struct card_file *card, off_t which) {
+    set_lock(card, which, F_UNLCK);
+}
+
+/* Takes the words, through the gate: with others who read, or alone. */
+static int take_words(const struct card_file *card, short type, const struct timespec *since) {
+    int status = lock(card, LOCK_GATE, type, since);
+    if (status != EXIT_DONE)
+        return status;
+    status = lock(card, LOCK_WORDS, type, since);
+    unlock(card, LOCK_GATE);
+    return status;
 }
 
 /* ---- the medium */
 
-/* Says that a sync failed. The system tells only once of a write that did not
- * reach the medium: from here on neither the file nor another sync shows it. */
-static int not_on_medium(const char *path, const char *what) {
-    return fault(path,
-                 "%s: %s may not be on the medium, whatever the file shows; do not trust the file before its medium "
-                 "has been unmounted and mounted again (README: If a write does not reach the medium)",
-                 strerror(errno), what);
-}
-
-/* Has the name of a file on the medium: syncs the folder that it is in, where
- * the file system has syncs of folders (EINVAL: it has none). */
-static bool sync_folder(const char *path) {
-    const char *slash = strrchr(path, '/');
-    /* "." for a bare name, "/" for a file of the root */
-    char *folder = slash == NULL ? strdup(".") : strndup(path, slash == path ? 1 : (size_t)(slash - path));
-    if (folder == NULL)
-        return false;
-    int file = open(folder, O_RDONLY | O_DIRECTORY | O_CLOEXEC);
-    free(folder);
-    if (file < 0)
-        return false;
-    bool synced = fsync(file) == 0 || errno == EINVAL;
-    int kept = errno;
-    close(file);
-    errno = kept;
-    return synced;
-}
-
-/* Brings to the medium what a run left behind that was killed before its sync:
- * its last write and, where it made the file, the file's name. Else this run
- * would show, and build on, words that a power cut can still take away. A file
- * that is only read may lie where there are no syncs (EINVAL) and no writes. */
+/* Brings to the medium what a run left behind that was killed before its sync: its last
+ * write and, where it made the file, the file's name. Else this run would show, and build
+ * on, words that a power cut can still take away. A file that is only read may lie where
+ * there are no syncs (EINVAL) and no writes. */
 static int settle(const struct card_file *card, bool writable) {
-    if (fdatasync(card->file) != 0 && (writable || errno != EINVAL))
+    if (!sync_words(card->file) && (writable || errno != EINVAL))
         return not_on_medium(card->path, "its words");
-    if (writable && !sync_folder(card->path))
+    if (writable && !sync_folder(card->real))
         return not_on_medium(card->path, "its name");
     return EXIT_DONE;
 }
 
-/* ---- what the commands call */
+/* Takes the words of a file that is open, to read them; other writers are kept off from
+ * here on where it may be written. */
+static int take_card(const struct card_file *card, bool writable) {
+    struct timespec since;
+    int status = begin_waiting(card, &since);
+    if (status == EXIT_DONE && writable)
+        status = lock(card, LOCK_WRITER, F_WRLCK, &since);
+    return status == EXIT_DONE ? take_words(card, writable ? F_WRLCK : F_RDLCK, &since) : status;
+}
 
-int card_open(struct card_file *card, const char *path, bool writable) {
-    *card = (struct card_file){.path = path};
-    card->file = open(path, (writable ? O_RDWR : O_RDONLY) | O_CLOEXEC);
-    if (card->file < 0)
-        return fault(path, "%s", strerror(errno));
-    int status = lock(card, writable);
+/* Reads a file that is open, while no other run writes it. */
+static int read_card(struct card_file *card, bool writable) {
+    card->real = realpath(card->path, NULL);
+    if (card->real == NULL)
+        return fault(card->path, "%s", strerror(errno));
+    int status = take_card(card, writable);
     if (status == EXIT_DONE)
-        status = measure(card);
+        status = measure(card); /* again: a writer may have been at work */
     if (status == EXIT_DONE)
         status = settle(card, writable);
     if (status == EXIT_DONE)
         status = read_words(card);
+    unlock(card, LOCK_WORDS);
+    return status;
+}
+
+/* ---- what the commands call */
+
+int card_open(struct card_file *card, const char *path, bool writable, uint32_t wait) {
+    *card = (struct card_file){.path = path, .wait = wait};
+    /* a pipe or a device is not waited for */
+    card->file = open_file(path, (writable ? O_RDWR : O_RDONLY) | O_NONBLOCK | O_NOCTTY);
+    if (card->file < 0) {
+        int reason = errno;
+        struct stat about;
+        bool link = reason == ENOENT && lstat(path, &about) == 0;
+        return fault(path, "%s", link ? "a link to a file that is not there" : strerror(reason));
+    }
+    int status = measure(card);
+    if (status == EXIT_DONE)
+        status = read_card(card, writable);
     if (status != EXIT_DONE) {
+        card_close(card);
+    } else if (!writable) {
         close(card->file);
-        free(card->words);
+        card->file = -1;
     }
     return status;
 }
 
 int card_store(const struct card_file *card, size_t first, size_t count) {
+    struct timespec since;
+    int status = begin_waiting(card, &since);
+    if (status == EXIT_DONE)
+        status = take_words(card, F_WRLCK, &since);
+    if (status != EXIT_DONE)
+        return status;
     if (!write_words(card->file, card->words + first, first, count))
-        return fault(card->path, "%s", strerror(errno));
-    if (fdatasync(card->file) != 0)
-        return not_on_medium(card->path, "its last write");
-    return EXIT_DONE;
+        status = fault(card->path,
+                       "%s; the card is as a power cut would leave it, and no game is lost; when the cause is gone, "
+                       "run the same command again, and it goes on",
+                       strerror(errno));
+    else if (!sync_words(card->file))
+        status = not_on_medium(card->path, "its last write");
+    unlock(card, LOCK_WORDS);
+    return status;
 }
 
-int card_close(struct card_file *card) {
+void card_close(struct card_file *card) {
     free(card->words);
-    card->words = NULL;
-    if (close(card->file) != 0)
-        return fault(card->path, "%s", strerror(errno));
-    return EXIT_DONE;
+    free(card->real);
+    if (card->file >= 0)
+        close(card->file);
 }
 
-int card_create(const char *path, const uint32_t *words, size_t length) {
-    int file = open(path, O_RDWR | O_CREAT | O_EXCL | O_CLOEXEC, 0666);
-    if (file < 0)
-        return fault(path, "%s", strerror(errno));
-    bool made = write_words(file, words, 0, length) && fdatasync(file) == 0 && sync_folder(path);
-    int kept = errno;
-    if (close(file) != 0 && made) {
-        made = false;
-        kept = errno;
-    }
-    if (made)
-        return EXIT_DONE;
-    unlink(path);
-    return fault(path, "%s", strerror(kept));
+int card_judge(const struct card_file *card) {
+    uint32_t number = gi_judge(card->words, card->length);
+    return number == GI_DONE ? EXIT_DONE : refused(card->path, number);
+}
+
+bool pass_open(const struct card_file *card) {
+    return card->words[GI_CONFIG_NEW_LENGTH] != 0;
 }

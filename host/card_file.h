@@ -1,6 +1,10 @@
-/* Card files: the words of a card, 32 bits each, little-endian, and nothing
- * else. The functions that can fail say on stderr what is wrong and give
- * EXIT_FAULT; they give EXIT_DONE otherwise. */
+/* Card files: the words of a card, 32 bits each, little-endian, and nothing else. What
+ * fails is told on standard error; the functions give an exit status.
+ *
+ * Runs keep out of each other's way by locks on the card's file. Who reads has its words
+ * for as long as it takes to read them, and then works on what it has read. Who writes
+ * keeps other writers off from the first to the last, but has the words for one write at
+ * a time: readers get in between any two. */
 #ifndef CARD_FILE_H
 #define CARD_FILE_H
 
@@ -8,37 +12,33 @@
 #include <stddef.h>
 #include <stdint.h>
 
-/* The exit statuses of the host program. */
-enum { EXIT_DONE = 0, EXIT_REFUSED = 1, EXIT_FAULT = 2, EXIT_NO_ROOM = 3 };
-
-/* An open card file and its words in memory. */
+/* A card file and its words in memory. */
 struct card_file {
-    const char *path;
-    int file;
+    const char *path; /* as messages have it */
+    char *real;       /* the same without links */
+    uint32_t wait;    /* seconds to wait for other runs */
+    int file;         /* open while the card may be written, else -1 */
     uint32_t *words;
     size_t length;
 };
 
-/* Says on stderr what is wrong with a file, and gives EXIT_FAULT. */
-int fault(const char *path, const char *form, ...);
+/* Opens a card file and reads its words; they are on the medium, also those that a
+ * killed run left unsynced. Of a file longer than the largest card one word more than
+ * that is read: every call of the library gives the same number for all such lengths. */
+int card_open(struct card_file *card, const char *path, bool writable, uint32_t wait);
 
-/* Opens a card file and reads its words; they are on the medium, also those
- * that a killed run left unsynced. Until it is closed no other run may write it,
- * nor read it where this one may write. Of a file longer than the largest card
- * one word more than that is read: every call of the library gives the same
- * number for all such lengths. */
-int card_open(struct card_file *card, const char *path, bool writable);
-
-/* Writes count words from word first on back to their place in the file; they
- * are on the medium when it gives EXIT_DONE. After another status nothing more
- * may be written in this run. */
+/* Writes count words, at most those of a block, from word first on back to their place
+ * in the file; they are on the medium when it gives EXIT_DONE. After another status
+ * nothing more may be written in this run. */
 int card_store(const struct card_file *card, size_t first, size_t count);
 
 /* Closes the file and gives the memory back. */
-int card_close(struct card_file *card);
+void card_close(struct card_file *card);
 
-/* Makes a card file of length words, which must not be there yet; it is on the
- * medium when it returns, and removed where it could not be finished. */
-int card_create(const char *path, const uint32_t *words, size_t length);
+/* Tells why a card is not sound and gives EXIT_REFUSED, or EXIT_DONE for a sound one. */
+int card_judge(const struct card_file *card);
+
+/* Whether a pass is open on a sound card. */
+bool pass_open(const struct card_file *card);
 
 #endif

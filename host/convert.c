@@ -8,7 +8,7 @@
 #include <string.h>
 
 #include "batch_file.h"
-#include "card_file.h"
+#include "files.h"
 #include "gameindex.h"
 #include "report.h"
 
@@ -17,9 +17,9 @@ enum { OLD_RECORD_WORDS = 4, OLD_WORDS_MAX = GI_BATCH_RECORDS_MAX * OLD_RECORD_W
 /* Refuses words that are not up to 4,096 records of four. */
 static int whole_records(const char *path, const struct batch *old) {
     if (old->length > OLD_WORDS_MAX)
-        printf("%s: refused, more than 4,096 records of four words\n", path);
+        fprintf(stderr, "%s: refused, more than 4,096 records of four words\n", path);
     else if (old->length % OLD_RECORD_WORDS != 0)
-        printf("%s: refused, %zu words are not a whole number of records of four words\n", path, old->length);
+        fprintf(stderr, "%s: refused, %zu words are not a whole number of records of four words\n", path, old->length);
     else
         return EXIT_DONE;
     return EXIT_REFUSED;
@@ -45,35 +45,6 @@ static void number_records(const struct batch *old, struct batch *new) {
     new->length = (size_t)records *GI_RECORD_WORDS;
 }
 
-/* Refuses what the index would refuse of the batch on any card: it is asked about an
- * empty one. Few files of five-word records get past this. */
-static int judge_records(const char *path, const struct batch *new) {
-    enum { WORDS = GI_CONFIG_WORDS + GI_PLACES_MIN * (GI_MAP_ENTRY_WORDS + GI_BLOCK_WORDS_MIN) };
-    uint32_t card[WORDS];
-    uint32_t told[4];
-    gi_format(card, WORDS, GI_BLOCK_WORDS_MIN, GI_PLACES_MIN);
-    uint32_t number = gi_forecast(card, WORDS, new->words, new->length, &told[0], &told[1], &told[2], &told[3]);
-    return number == GI_DONE ? EXIT_DONE : refused(path, number);
-}
-
-/* Makes the new file. Its first word, a kind, is 0 until all others are on the medium:
- * a file that was cut short is empty, or is refused wherever it is applied. */
-static int write_new(const char *path, struct batch *new) {
-    uint32_t kind = new->words[0];
-    new->words[0] = 0;
-    int status = card_create(path, new->words, new->length);
-    if (status != EXIT_DONE || new->length == 0)
-        return status;
-    struct card_file file;
-    status = card_open(&file, path, true);
-    if (status != EXIT_DONE)
-        return status;
-    file.words[0] = kind;
-    status = card_store(&file, 0, 1);
-    int closed = card_close(&file);
-    return status != EXIT_DONE ? status : closed;
-}
-
 static void show_converted(const char *path, const struct batch *old) {
     uint64_t records = old->length / OLD_RECORD_WORDS;
     uint64_t additions = count_additions(old);
@@ -81,10 +52,11 @@ static void show_converted(const char *path, const struct batch *old) {
            COUNTED(records, "record"), COUNTED(records - additions, "removal"), COUNTED(additions, "addition"));
 }
 
-int run_convert(char **words) {
+int run_convert(const struct options *options, char **words) {
+    (void)options;
     static struct batch old;
     static struct batch new;
-    const char *name = batch_name(words[0]);
+    const char *name = input_name(words[0]);
     if (strcmp(words[1], "-") == 0)
         return fault("-", "the new file must have a name; standard output is for messages");
     int status = batch_read(&old, words[0]);
@@ -93,9 +65,11 @@ int run_convert(char **words) {
     if (status != EXIT_DONE)
         return status;
     number_records(&old, &new);
-    status = judge_records(name, &new);
-    if (status == EXIT_DONE)
-        status = write_new(words[1], &new);
+    /* few files of five-word records get past this */
+    uint32_t number = batch_number(&new);
+    if (number != GI_DONE)
+        return refused_batch(name, &new, number);
+    status = file_create(words[1], new.words, new.length);
     if (status == EXIT_DONE)
         show_converted(words[1], &old);
     return status;

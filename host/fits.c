@@ -1,79 +1,112 @@
 /* Tells whether a batch fits on a card file: what comes of applying it to the end with
- * no cut. The card is only read. */
+ * no cut. The card is only read; the passes of a long text are made in memory. */
 #include "fits.h"
 
 #include <inttypes.h>
 #include <stdio.h>
 
-#include "batch_file.h"
-#include "card_file.h"
 #include "gameindex.h"
+#include "pass_file.h"
 #include "report.h"
 
-static bool pass_open(const struct card_file *card) {
-    return card->words[GI_CONFIG_NEW_LENGTH] != 0;
+int foretell(struct forecast *told, const struct card_file *card, const struct input *input) {
+    const struct batch *batch = &input->batch;
+    uint32_t number = gi_forecast(card->words, card->length, batch->words, batch->length, &told->blocks, &told->limit,
+                                  &told->finishes, &told->writes);
+    if (number == GI_BATCH_RECORD || number == GI_BATCH_ORDER || number == GI_BATCH_ARRIVAL)
+        return refused_batch(input->name, batch, number);
+    return number == GI_DONE ? EXIT_DONE : refused(card->path, number);
 }
 
-/* Says of a card whose pass is open what the answer is about. */
-static void show_open(const struct card_file *card) {
-    if (pass_open(card))
-        printf("%s: a pass is open, and this is about going on with it; a batch other than the one that it began with "
-               "leaves the pairs already moved as they are\n",
-               card->path);
-}
+/* ---- what is shown */
 
-static void show_fits(const struct card_file *card, uint32_t blocks, uint32_t limit) {
-    printf("%s: the batch fits; ", card->path);
-    if (blocks == 0)
+static void show_fits(const struct card_file *card, const struct input *input, const struct forecast *told) {
+    printf("%s: %sthe batch fits; ", card->path, input->label);
+    if (told->blocks == 0)
         printf("nothing remains to be put in a block, and the pass finishes in %" PRIu64 " %s%s\n",
-               COUNTED(limit, "step"));
+               COUNTED(told->limit, "step"));
     else
-        printf("the pass fills %" PRIu64 " %s%s and finishes within %" PRIu64 " %s%s\n", COUNTED(blocks, "block"),
-               COUNTED(limit, "step"));
-    show_open(card);
+        printf("the pass fills %" PRIu64 " %s%s and finishes within %" PRIu64 " %s%s\n", COUNTED(told->blocks, "block"),
+               COUNTED(told->limit, "step"));
 }
 
-/* Says that a batch does not fit, and what can be done. */
-static void show_no_room(const struct card_file *card, uint32_t blocks, uint32_t writes) {
+void show_no_room(FILE *out, const struct card_file *card, const struct input *input, const struct forecast *told) {
     const uint32_t *words = card->words;
     uint32_t places = words[GI_CONFIG_PLACES];
     /* a sound card has more places than live blocks */
     uint32_t free_places = places - words[GI_CONFIG_OLD_LENGTH] - words[GI_CONFIG_NEW_LENGTH];
-    printf("%s: the batch does not fit, the card is too full; the pass needs %" PRIu64 " %s%s and would stop with "
-           "number %d after putting in %" PRIu64 " %s%s\n",
-           card->path, COUNTED(blocks, "block"), GI_CARD_FULL, COUNTED(writes, "block"));
-    show_open(card);
-    printf("%s: nothing has been changed; if the batch is applied all the same, the part moved by then stays in the "
-           "index, and no game is lost\n",
-           card->path);
-    printf("%s: use a card with more places, or %sapply smaller batches, or remove games first; removals alone always "
-           "fit where two places are free (free now: %" PRIu32 " of %" PRIu32 ")\n",
-           card->path, pass_open(card) ? "end the pass with an empty batch, which always fits, and then " : "",
-           free_places, places);
+    fprintf(out,
+            "%s: %sthe batch does not fit, the card is too full; the pass needs %" PRIu64 " %s%s and would stop with "
+            "number %d after putting in %" PRIu64 " %s%s\n",
+            card->path, input->label, COUNTED(told->blocks, "block"), GI_CARD_FULL, COUNTED(told->writes, "block"));
+    fprintf(out,
+            "%s: use a card with more places, or %sapply smaller batches, or remove games first; removals alone always "
+            "fit where two places are free (free now: %" PRIu32 " of %" PRIu32 ")\n",
+            card->path, pass_open(card) ? "end the pass with an empty batch, which always fits, and then " : "",
+            free_places, places);
 }
 
-/* Asks the library, shows its answer and gives the exit status. */
-static int foretell(const struct card_file *card, const struct batch *batch) {
-    uint32_t blocks;
-    uint32_t limit;
-    uint32_t finishes;
-    uint32_t writes;
-    uint32_t number =
-        gi_forecast(card->words, card->length, batch->words, batch->length, &blocks, &limit, &finishes, &writes);
-    if (number != GI_DONE)
-        return refused(card->path, number);
-    if (finishes != 0) {
-        show_fits(card, blocks, limit);
-        return EXIT_DONE;
+/* Says of a card whose pass is open what the answer is about. */
+static void show_open(const struct card_file *card, bool same) {
+    if (pass_open(card))
+        printf("%s: a pass is open, and this is about going on with it%s\n", card->path,
+               same ? "" : "; apply refuses a batch other than the one that it was begun with");
+}
+
+/* ---- the parts of what is asked about */
+
+/* Makes in memory the pass of a batch that fits. */
+static void pass_in_memory(const struct card_file *card, const struct batch *batch) {
+    uint32_t write;
+    uint32_t freed;
+    uint32_t finished = 0;
+    while (finished == 0 &&
+           gi_step(card->words, card->length, batch->words, batch->length, &write, &freed, &finished) == GI_DONE)
+        continue;
+}
+
+/* Asks about the part in hand and those behind it, and gives the exit status. */
+static int ask_parts(const struct card_file *card, struct input *input) {
+    for (;;) {
+        struct forecast told;
+        int status = foretell(&told, card, input);
+        if (status != EXIT_DONE)
+            return status;
+        if (told.finishes == 0) {
+            show_no_room(stdout, card, input, &told);
+            printf("%s: nothing has been changed\n", card->path);
+            return EXIT_NO_ROOM;
+        }
+        show_fits(card, input, &told);
+        if (input->part + 1 == input->parts)
+            return EXIT_DONE;
+        pass_in_memory(card, &input->batch);
+        input_part(input, input->part + 1);
     }
-    show_no_room(card, blocks, writes);
-    return EXIT_NO_ROOM;
 }
 
-int run_fits(char **words) {
-    return batch_on_card(words, false, batch_read, foretell);
+/* Asks about what is to be applied, from the part on that apply would begin with. */
+static int ask(const struct card_file *card, struct input *input) {
+    struct note note;
+    int status = card_judge(card);
+    if (status == EXIT_DONE)
+        status = note_find(&note, card, input);
+    if (status != EXIT_DONE)
+        return status;
+    show_open(card, note.same || input->batch.length == 0);
+    return ask_parts(card, input);
 }
 
-int run_fits_text(char **words) {
-    return batch_on_card(words, false, scores_read, foretell);
+int run_fits(const struct options *options, char **words) {
+    static struct input input;
+    struct card_file card;
+    int status = input_read(&input, words[1], options->given & OPTION_TEXT);
+    if (status == EXIT_DONE)
+        status = card_open(&card, words[0], false, options->wait);
+    if (status == EXIT_DONE) {
+        status = ask(&card, &input);
+        card_close(&card);
+    }
+    input_close(&input);
+    return status;
 }

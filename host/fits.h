@@ -1,13 +1,32 @@
-/* The commands that tell whether a batch fits on a card file, and write nothing. Their
- * words are those of the commands that apply it; they give the exit status, which is
- * EXIT_NO_ROOM where it does not fit. */
+/* The command that tells whether a batch fits on a card file, and writes nothing. */
 #ifndef FITS_H
 #define FITS_H
 
-/* Asks about a file of batch words. */
-int run_fits(char **words);
+#include <stdbool.h>
+#include <stdint.h>
+#include <stdio.h>
 
-/* The same about a scorekeepers' file. */
-int run_fits_text(char **words);
+#include "batch_file.h"
+#include "card_file.h"
+#include "options.h"
+
+/* What the library foretells of a pass. */
+struct forecast {
+    uint32_t blocks;
+    uint32_t limit;
+    uint32_t finishes;
+    uint32_t writes;
+};
+
+/* Asks the library about the part in hand, on a card. Gives EXIT_REFUSED after telling
+ * why, or EXIT_DONE. */
+int foretell(struct forecast *told, const struct card_file *card, const struct input *input);
+
+/* Tells that the part in hand does not fit, and what would help. */
+void show_no_room(FILE *out, const struct card_file *card, const struct input *input, const struct forecast *told);
+
+/* The words are those of apply. Gives the exit status, which is EXIT_NO_ROOM where it
+ * does not fit. */
+int run_fits(const struct options *options, char **words);
 
 #endif

@@ -21,12 +21,12 @@ struct question {
 /* Asks a card, shows what it answers and gives the exit status. */
 typedef int answer_function(const struct card_file *card, struct question asked);
 
-/* Shows the answer one running number to a line, and its counts. */
+/* Shows the answer one running number to a line, and its counts beside it. */
 static int look_up(const struct card_file *card, struct question asked) {
     /* no card holds as many positions as it has words */
     uint32_t *answer = malloc((card->length + 1) * sizeof *answer);
     if (answer == NULL)
-        return fault(card->path, "no memory for %zu words", card->length);
+        return no_memory(card->path);
     uint32_t found;
     uint32_t blocks;
     uint32_t number = asked.ranged
@@ -39,14 +39,15 @@ static int look_up(const struct card_file *card, struct question asked) {
     } else {
         for (uint32_t i = 0; i < found; i++)
             printf("%" PRIu32 "\n", answer[i]);
-        printf("%s: term %" PRIu32 " from %" PRIu32 " to %" PRIu32 ": %" PRIu64 " %s%s, %" PRIu64 " %s%s read\n",
-               card->path, asked.term, asked.from, asked.to, COUNTED(found, "position"), COUNTED(blocks, "block"));
+        fprintf(stderr,
+                "%s: term %" PRIu32 " from %" PRIu32 " to %" PRIu32 ": %" PRIu64 " %s%s, %" PRIu64 " %s%s read\n",
+                card->path, asked.term, asked.from, asked.to, COUNTED(found, "position"), COUNTED(blocks, "block"));
     }
     free(answer);
     return status;
 }
 
-/* Writes the answer as a page. Standard output has the page and nothing else. */
+/* Writes the answer as a page. */
 static int write_page(const struct card_file *card, struct question asked) {
     /* never too short: each position of an answer is a word of the card, no word
      * is two of them, and more positions never have a shorter page */
@@ -54,12 +55,12 @@ static int write_page(const struct card_file *card, struct question asked) {
     /* one byte more, so that an empty file has memory too */
     uint8_t *page = malloc(page_len + 1);
     if (page == NULL)
-        return fault(card->path, "no memory for %zu bytes", page_len);
+        return no_memory(card->path);
     uint32_t lines;
     uint32_t number = gi_page(card->words, card->length, asked.term, asked.from, asked.to, page, page_len, &lines);
     int status = EXIT_DONE;
     if (number != GI_DONE)
-        status = refused_on(stderr, card->path, number);
+        status = refused(card->path, number);
     else
         fwrite(page, GI_PAGE_LINE_BYTES, lines, stdout);
     free(page);
@@ -67,15 +68,13 @@ static int write_page(const struct card_file *card, struct question asked) {
 }
 
 /* Reads a question from the words of a command and has its card answer it. */
-static int ask(char **words, answer_function *answer) {
+static int ask(const struct options *options, char **words, answer_function *answer) {
     struct question asked = {.ranged = words[2] != NULL, .from = GI_LOWEST, .to = GI_HIGHEST};
-    if (!parse_word(words[1], &asked.term) ||
-        (asked.ranged && (!parse_word(words[2], &asked.from) || !parse_word(words[3], &asked.to)))) {
-        fprintf(stderr, "gameindex: TERM, FROM and TO are decimal numbers of 32 bits\n");
+    if (!parse_word("TERM", words[1], &asked.term) ||
+        (asked.ranged && (!parse_word("FROM", words[2], &asked.from) || !parse_word("TO", words[3], &asked.to))))
         return EXIT_FAULT;
-    }
     struct card_file card;
-    int status = card_open(&card, words[0], false);
+    int status = card_open(&card, words[0], false, options->wait);
     if (status != EXIT_DONE)
         return status;
     status = answer(&card, asked);
@@ -83,10 +82,10 @@ static int ask(char **words, answer_function *answer) {
     return status;
 }
 
-int run_lookup(char **words) {
-    return ask(words, look_up);
+int run_lookup(const struct options *options, char **words) {
+    return ask(options, words, look_up);
 }
 
-int run_page(char **words) {
-    return ask(words, write_page);
+int run_page(const struct options *options, char **words) {
+    return ask(options, words, write_page);
 }

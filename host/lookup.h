@@ -3,10 +3,12 @@
 #ifndef LOOKUP_H
 #define LOOKUP_H
 
-/* Shows the answer and its counts. */
-int run_lookup(char **words);
+#include "options.h"
+
+/* Shows the answer, one running number to a line, and on standard error its counts. */
+int run_lookup(const struct options *options, char **words);
 
 /* Writes the answer to standard output as a page, and nothing else there. */
-int run_page(char **words);
+int run_page(const struct options *options, char **words);
 
 #endif

@@ -1,10 +1,10 @@
-/* What the commands show: numbers with their meaning, configuration words. */
+/* What the commands tell: numbers with their meaning, configuration words. */
 #include "report.h"
 
 #include <inttypes.h>
+#include <stdarg.h>
 #include <stdio.h>
 
-#include "card_file.h"
 #include "gameindex.h"
 
 /* The meaning of each number, in plain words. */
@@ -16,9 +16,9 @@ static const char *const meanings[] = {
     [GI_CARD_BLOCKS] = "a live block, its map entry or the boundary is wrong",
     [GI_FORMAT_LIMITS] = "B must be from 8 to 1,024 and N from 2 to 1,024",
     [GI_BATCH_RECORD] =
-        "the batch's length is no whole number of five-word records, it has more than 4,096 records, or a record is "
-        "ill formed",
-    [GI_BATCH_ORDER] = "the records of the batch are not in order of term, then from",
+        "a batch is at most 4,096 records of five words; kind 1, 2 or 3, term, from, to, arrival; term 0 goes with "
+        "kind 3 alone; from and to are at least 1, and alike in an addition",
+    [GI_BATCH_ORDER] = "the records of a batch are in order of term, then from",
     [GI_CARD_FULL] = "the card is full: the next block would leave no place free",
     [GI_LOOKUP_RANGE] = "term and from must be at least 1, and from at most to",
     [GI_LOOKUP_ANSWER] = "fewer words are lent than the answer or the batch has",
@@ -27,24 +27,35 @@ static const char *const meanings[] = {
         "a line must be A<tab>term<tab>position or R<tab>term<tab>from<tab>to, ended by a line feed without "
         "a carriage return; figures have no leading zeros and are at most 4,294,967,295",
     [GI_SCORES_LINES] = "the file has more than 4,096 lines",
-    [GI_BATCH_ARRIVAL] = "an arrival number of the batch is 0, or two of its records have the same",
+    [GI_BATCH_ARRIVAL] = "arrival numbers are at least 1, and no two records of a batch have the same",
 };
 
 static const char *meaning(uint32_t number) {
     return number < sizeof meanings / sizeof *meanings ? meanings[number] : "a number without a meaning here";
 }
 
-int refused_on(FILE *out, const char *path, uint32_t number) {
-    fprintf(out, "%s: refused, number %" PRIu32 ": %s\n", path, number, meaning(number));
-    return EXIT_REFUSED;
+int fault(const char *path, const char *form, ...) {
+    va_list words;
+    va_start(words, form);
+    fprintf(stderr, "gameindex: %s: ", path);
+    vfprintf(stderr, form, words);
+    fputc('\n', stderr);
+    va_end(words);
+    return EXIT_FAULT;
+}
+
+int no_memory(const char *path) {
+    return fault(path, "no memory for it");
 }
 
 int refused(const char *path, uint32_t number) {
-    return refused_on(stdout, path, number);
+    fprintf(stderr, "%s: refused, number %" PRIu32 ": %s\n", path, number, meaning(number));
+    return EXIT_REFUSED;
 }
 
-int refused_line(const char *path, size_t line, uint32_t number) {
-    printf("%s: line %zu: refused, number %" PRIu32 ": %s\n", path, line, number, meaning(number));
+int refused_part(const char *path, const char *part, uint32_t number, const char *ground) {
+    fprintf(stderr, "%s: %s: refused, number %" PRIu32 ": %s\n", path, part, number,
+            ground != NULL ? ground : meaning(number));
     return EXIT_REFUSED;
 }
 
@@ -69,16 +80,14 @@ void show_configuration(const uint32_t *card) {
         printf("  %-20s %10" PRIu32 "\n", names[i], card[i]);
 }
 
-bool parse_word(const char *text, uint32_t *word) {
+bool parse_word(const char *name, const char *text, uint32_t *word) {
     uint64_t value = 0;
-    if (*text == '\0')
+    const char *next = text;
+    while (*next >= '0' && *next <= '9' && value <= UINT32_MAX)
+        value = 10 * value + (uint64_t)(*next++ - '0');
+    if (*next != '\0' || next == text || value > UINT32_MAX) {
+        fault(name, "'%s' is not a decimal number of at most 4,294,967,295", text);
         return false;
-    for (; *text != '\0'; text++) {
-        if (*text < '0' || *text > '9')
-            return false;
-        value = 10 * value + (uint64_t)(*text - '0');
-        if (value > UINT32_MAX)
-            return false;
     }
     *word = (uint32_t)value;
     return true;
