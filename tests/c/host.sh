@@ -31,6 +31,21 @@ expect() { # STATUS WHAT COMMAND..: the command must exit with the status
 }
 run() { expect "$1" "$2" "$program" "${@:3}"; } # STATUS WHAT WORDS..: the program with the words
 run_cut() { expect "$1" "$2" "$cut" "${@:3}"; } # the same with its test build
+said_alone() { # WHAT: what the last run had to say is on standard error, and nothing is on standard output
+    check "$1: on standard error alone" [ -s err -a ! -s out ]
+}
+# What a command writes is compared by pipes: bash can take the exit status of a process substitution that is long gone for
+# that of a command which has got its number.
+has() { "${@:2}" | cmp -s "$1" -; }            # FILE COMMAND..: the file has what the command writes
+begins() { head -n 1 "$1" | grep -q "$2"; }    # FILE PATTERN: its first line has the pattern
+none_or_same() { [ ! -e "$1" ] || cmp -s "$1" "$2"; }                       # FILE FILE
+same_or_none() { if [ -e "$1" ]; then cmp -s "$1" "$2"; else [ ! -e "$2" ]; fi; } # FILE FILE
+none_named() { [ -z "$(find . -maxdepth 1 -name "$1*")" ]; }                 # NAME: no file has a name that begins so
+# calls of a log, as power_cut.c has them, joined by commas
+logged() { tr '\n' ',' <"$1"; }
+# what a run logs before its first write to a card: the card and its name are synced, then the note is, under its name
+opened() { echo "sync,folder,$(noted "$1")"; }                                       # CARD
+noted() { echo "remove $1.pass.new,put,file,name $1.pass,folder,"; }                   # CARD: the note's part of it
 
 # the words of a file, decimal, from word FIRST on
 words() { od -An -v -tu4 --endian=little -w4 -j $(($2 * 4)) "$1" | tr -s ' \n' ' '; }
@@ -52,7 +67,10 @@ run 0 'judge the largest card' judge large.card
 # a card that is there: only the configuration words are written
 head -c 192 /dev/zero | tr '\0' '\125' >used.card
 words used.card 8 >kept
-run 0 'format a used card' format used.card 8 4
+run 1 'format a used card' format used.card 8 4
+said_alone 'format a used card'
+check 'it stands' [ "$(words used.card 8)" = "$(cat kept)" -a "$(words used.card 0 | cut -d' ' -f2)" = 1431655765 ]
+run 0 'format it all the same' format --force used.card 8 4
 check 'its configuration words' [ "$(words used.card 0 | cut -d' ' -f2-9)" = '1 8 4 0 0 0 0 0' ]
 check 'its other words stand' [ "$(words used.card 8)" = "$(cat kept)" ]
 check 'it is as long as before' [ "$(stat -c %s used.card)" -eq 192 ]
@@ -73,14 +91,18 @@ check 'show names its live place' grep -Eq '^ +0 +old +5 +2$' out
 set_word live.card 9 3
 run 1 'judge a damaged card' judge live.card
 check 'the judge names number 4' grep -q ': 4, ' out
+check 'its verdict is on standard output alone' [ -s out -a ! -s err ]
 run 1 'show a damaged card' show live.card
+check 'show names number 4' grep -q ': 4, ' out
 
 # refusals change nothing
 cp live.card before.card
 run 1 'format with another N' format live.card 8 5
-check 'it names number 1' grep -q 'number 1:' out
+check 'it names number 1' grep -q 'number 1:' err
+said_alone 'format with another N'
 run 1 'format with B too small' format live.card 7 4
-check 'it names number 5' grep -q 'number 5:' out
+check 'it names number 5' grep -q 'number 5:' err
+said_alone 'format with B too small'
 check 'the card stands' cmp -s live.card before.card
 run 1 'format a new card with N too large' format none.card 8 1025
 check 'no file is made' [ ! -e none.card ]
@@ -88,6 +110,7 @@ check 'no file is made' [ ! -e none.card ]
 run 1 'judge an empty file' judge empty.card
 check 'it names number 1' grep -q ': 1, ' out
 run 1 'format an empty file' format empty.card 8 4
+check 'it names number 1' grep -q 'number 1:' err
 check 'the empty file stands' [ ! -s empty.card ]
 cp large.card longer.card
 head -c 8 /dev/zero >>longer.card
@@ -135,6 +158,7 @@ check 'the configuration is shown' grep -Eq '^ +old length +1$' out
 check 'no progress where there is no terminal' [ ! -s err ]
 check 'the words of case 1' [ "$(words case.card 0)" = " 1 8 4 0 1 0 0 0 5 2 0 0 0 0 0 0 5 2 2 9 7 1 4 0 $(yes 0 | head -n 24 | tr '\n' ' ')" ]
 cp case.card case1.card
+check 'no note is left' [ ! -e case.card.pass -a ! -e case.card.pass.new ]
 batch more.batch 1 8 1 1
 run 0 'apply from standard input' apply case.card - <more.batch
 check 'two blocks and a place freed' grep -q '6 steps, as many writes (2 blocks, 2 map entries, 2 configurations); 1 old place freed' out
@@ -150,18 +174,21 @@ check 'no pairs' [ -z "$(pairs case.card)" ]
 script -qec "'$program' apply case.card one.batch" /dev/null >out </dev/null
 check 'progress on a terminal' grep -q 'step 1: new length 0, old length' out
 
-# what was there is on the medium first, and then each write is the step's, in its order, and synced before the next
+# what was there is on the medium first, then the note, and then each write is the step's, in its order, and synced before
+# the next; the note goes at the end
 cp case1.card log.card
 WRITE_LOG=log "$cut" apply log.card more.batch >out
-check 'the writes of case 3' [ "$(tr '\n' ',' <log)" = \
-    'sync,folder,write 96 32,sync,write 40 8,sync,write 0 32,sync,write 128 32,sync,write 48 8,sync,write 0 32,sync,' ]
+check 'the writes of case 3' [ "$(logged log)" = \
+    "$(opened log.card)write 96 32,sync,write 40 8,sync,write 0 32,sync,write 128 32,sync,write 48 8,sync,write 0 32,sync,remove log.card.pass," ]
 
 # refusals: shown with their number, and the file stands
 refused() { # NUMBER WHAT CARD BATCH
     cp "$3" before.card
     run 1 "$2" apply "$3" "$4"
-    check "$2: it names number $1" grep -q "number $1:" out
+    check "$2: it names number $1" grep -q "number $1:" err
+    said_alone "$2"
     check "$2: the card stands" cmp -s "$3" before.card
+    check "$2: no note is made" [ ! -e "$3.pass" -a ! -e "$3.pass.new" ]
 }
 arrived part.batch 1 5 2
 refused 6 'a batch of three words' case1.card part.batch
@@ -180,64 +207,76 @@ refused 7 'records that fall' case1.card order.batch
 refused 4 'a card that is not sound' live.card one.batch
 refused 1 'an empty card' empty.card one.batch
 
-# a card that is full: what was reached is shown, and an empty batch finishes
+# a card that is full: the batch is refused before its first step; applied anyway, what was reached is shown, and an empty
+# batch finishes
 run 0 'format a card of two places' format two.card 8 2
 run 0 'fill it' apply two.card one.batch
-run 1 'apply to the full card' apply two.card more.batch
-check 'it names number 8' grep -q 'number 8:' out
+refused 8 'apply to the full card' two.card more.batch
+run 1 'apply to it anyway' apply --anyway two.card more.batch
+check 'it names number 8' grep -q '^two.card: refused, number 8:' err
 check 'it shows what was done' grep -q 'stopped; 3 steps' out
 check 'it shows what was reached' grep -q 'reached term 7, position 4;' out
 check 'the configuration of case 4' [ "$(configuration two.card)" = '1 8 2 1 0 1 7 4' ]
-refused 8 'apply again' two.card more.batch
+cp two.card before.card
+run 1 'apply again' apply two.card more.batch
+check 'it names number 8' grep -q '^two.card: refused, number 8:' err
+said_alone 'apply again'
+check 'the card stands' cmp -s two.card before.card
+run 1 'apply again, anyway' apply --anyway two.card more.batch
+check 'no step is made' grep -q 'stopped; 0 steps' out
+check 'the card stands' cmp -s two.card before.card
 run 0 'the empty batch' apply two.card none.batch
 check 'the configuration of case 4 at its end' [ "$(configuration two.card)" = '1 8 2 1 1 0 0 0' ]
 batch front.batch 1 4 1 1
 refused 8 'a block in front that frees none' two.card front.batch
+cp two.card before.card
+run 1 'the same, anyway' apply --anyway two.card front.batch
 check 'it says that no pass is open' grep -q 'no pass is open' out
+check 'the card stands' cmp -s two.card before.card
 
 # ---- lookup
 
-lookup() { # ANSWER COUNTS WHAT CARD TERM..: the answer, one number to a line, then the counts
+lookup() { # ANSWER COUNTS WHAT CARD TERM..: the answer, one number to a line, and the counts on standard error
     run 0 "$3" lookup "${@:4}"
-    check "$3: the answer" [ "$(sed '$d' out | tr '\n' ' ')" = "$1" ]
-    check "$3: the counts" grep -q ": $2\$" <(tail -n 1 out)
+    check "$3: the answer" [ "$(tr '\n' ' ' <out)" = "$1" ]
+    check "$3: the counts" grep -q ": $2\$" err
+    check "$3: nothing beside them" [ "$(wc -l <err)" -eq 1 ]
 }
 cp case1.card before.card
 lookup '2 9 ' '2 positions, 1 block read' 'look up 5' case1.card 5
-check 'the whole range is named' grep -q 'term 5 from 1 to 4294967295:' out
+check 'the whole range is named' grep -q 'term 5 from 1 to 4294967295:' err
 lookup '2 9 ' '2 positions, 1 block read' 'look up 5 from 1 to 9' case1.card 5 1 9
 lookup '' '0 positions, 1 block read' 'look up 5 from 3 to 8' case1.card 5 3 8
 lookup '' '0 positions, 0 blocks read' 'look up 4 from 1 to 9' case1.card 4 1 9
 lookup '' '0 positions, 1 block read' 'look up 6 from 1 to 9' case1.card 6 1 9
 lookup '9 ' '1 position, 1 block read' 'look up 5 from 9 to the highest' case1.card 5 9 4294967295
 lookup '' '0 positions, 0 blocks read' 'look up in an empty index' new.card 5
-run 1 'look up term 0' lookup case1.card 0
-check 'it names number 9' grep -q 'number 9:' out
-run 1 'look up from 0' lookup case1.card 5 0 9
-run 1 'look up from above to' lookup case1.card 5 9 8
-run 1 'look up in a damaged card' lookup live.card 5
-check 'it names number 4' grep -q 'number 4:' out
-run 1 'look up in an empty file' lookup empty.card 5
+no_lookup() { # NUMBER WHAT CARD TERM..: refused, with the number on standard error alone
+    run 1 "$2" lookup "${@:3}"
+    check "$2: it names number $1" grep -q "^$3: refused, number $1: " err
+    said_alone "$2"
+}
+no_lookup 9 'look up term 0' case1.card 0
+no_lookup 9 'look up from 0' case1.card 5 0 9
+no_lookup 9 'look up from above to' case1.card 5 9 8
+no_lookup 4 'look up in a damaged card' live.card 5
+no_lookup 1 'look up in an empty file' empty.card 5
 check 'lookups change nothing' cmp -s case1.card before.card
 
 # ---- page
 
 page() { # PAGE WHAT CARD TERM..: the page, byte for byte, and nothing else is shown
     run 0 "$2" page "${@:3}"
-    check "$2: the page" cmp -s out <(printf %s "$1")
+    check "$2: the page" has out printf %s "$1"
     check "$2: no message" [ ! -s err ]
 }
 no_page() { # NUMBER WHAT CARD TERM..: refused, with the lookup's message on standard error alone
     run 1 "$2, looked up" lookup "${@:3}"
-    mv out said
+    mv err said
     run 1 "$2" page "${@:3}"
     check "$2: no page" [ ! -s out ]
     check "$2: it names number $1" grep -q "number $1:" err
     check "$2: the message" cmp -s err said
-}
-faulty_page() { # WHAT WORDS..: at fault, with a message on standard error alone
-    run 2 "$1" page "${@:2}"
-    check "$1: the message is on stderr" [ -s err -a ! -s out ]
 }
 run 0 'format a card for pages' format page.card 8 6
 batch page.batch 1 5 7 7 1 6 2 2 1 6 30 30 1 6 400 400 1 6 5000 5000 1 6 60000 60000 \
@@ -285,28 +324,27 @@ run 0 'add its postings' apply long.card long.batch
 run 0 'a long page' page long.card 5
 check 'it has 64 lines of 65 bytes' [ "$(grep -Ec '^.{65}$' out)" -eq 64 -a "$(stat -c %s out)" -eq 4224 ]
 check 'its term, on the first line only' [ "$(cut -c1-10 out | uniq -c | tr -s ' \n' ' ')" = ' 1 5 63 ' ]
-check 'its positions, read back from their columns' cmp -s <(cut -c11- out | fold -w 11 | tr -d ' ') <(seq 320 | awk '{ print $1 * $1 }')
+check 'its positions, read back from their columns' [ "$(cut -c11- out | fold -w 11 | tr -d ' ')" = "$(seq 320 | awk '{ print $1 * $1 }')" ]
 
-# one run at a time writes a card, and none reads it meanwhile
-mkfifo wait.batch
-"$program" apply case1.card - <wait.batch >/dev/null 2>&1 &
-waiting=$!
-exec 3>wait.batch # its standard input, open for as long as this is
-for _ in $(seq 100); do
-    "$program" judge case1.card >/dev/null 2>&1
-    if [ $? -eq 2 ]; then break; fi
-    sleep 0.1
-done
-run 2 'judge a card in use' judge case1.card
-run 2 'look up in a card in use' lookup case1.card 5
-faulty_page 'a page of a card in use' case1.card 5
-run 2 'apply to a card in use' apply case1.card one.batch
-check 'the message names the use' grep -q 'in use' err
-run 2 'annul on a card in use' annul case1.card 4 9
-check 'the message names the use' grep -q 'in use' err
-exec 3>&-
-check 'the run that waited goes on' wait "$waiting"
+# What the help says of a command is told of where it is misused; NAME is the command.
+run 0 'help' help
+mv out usage
+tells() { grep -A 1 "^  $1 " usage | grep -qx "      $2"; } # COMMAND TEXT: the help's line on what the command does
+usage_of() { sed -n "s/^  \($1 .*\)/usage: gameindex \1/p" usage; }
+misused() { # WHAT MESSAGE COMMAND WORDS..: the message and how the command is used, on standard error alone
+    run 2 "$1" "${@:3}"
+    check "$1: the message" has err echo "gameindex: $3: $2"$'\n'"$(usage_of "$3")"
+    check "$1: nothing else is shown" [ ! -s out ]
+}
+faulty() { # WHAT MESSAGE COMMAND WORDS..: at fault, with the message alone
+    run 2 "$1" "${@:3}"
+    check "$1: the message" has err echo "gameindex: $2"
+    check "$1: nothing else is shown" [ ! -s out ]
+}
+no_word="is not a decimal number of at most 4,294,967,295"
 
+# shellcheck source=tests/c/host_locks.sh
+. "$here/host_locks.sh"
 # shellcheck source=tests/c/host_medium.sh
 . "$here/host_medium.sh"
 # shellcheck source=tests/c/host_streams.sh
@@ -319,44 +357,54 @@ check 'the run that waited goes on' wait "$waiting"
 . "$here/host_fits.sh"
 # shellcheck source=tests/c/host_arrival.sh
 . "$here/host_arrival.sh"
+# shellcheck source=tests/c/host_pass.sh
+. "$here/host_pass.sh"
+# shellcheck source=tests/c/host_format.sh
+. "$here/host_format.sh"
+# shellcheck source=tests/c/host_full.sh
+. "$here/host_full.sh"
+# shellcheck source=tests/c/host_parts.sh
+. "$here/host_parts.sh"
+# shellcheck source=tests/c/host_odd.sh
+. "$here/host_odd.sh"
 
 # faults of files and of the command line go to stderr
-run 2 'judge a file that is not there' judge none.card
-check 'the message is on stderr' [ -s err -a ! -s out ]
+faulty 'judge a file that is not there' 'none.card: No such file or directory' judge none.card
 printf 'abc' >odd.card
-run 2 'judge three bytes' judge odd.card
-run 2 'judge a folder' judge .
-run 2 'format into a folder that is not there' format none/new.card 8 4
-run 2 'B that is no number' format new2.card 8x 4
-run 2 'N over 32 bits' format new2.card 8 4294967298
-run 2 'a word missing' format new2.card 8
+faulty 'judge three bytes' 'odd.card: 3 bytes are not a whole number of 32-bit words' judge odd.card
+faulty 'judge a folder' '.: not a regular file' judge .
+faulty 'format into a folder that is not there' 'none/new.card: No such file or directory' format none/new.card 8 4
+faulty 'B that is no number' "B: '8x' $no_word" format new2.card 8x 4
+faulty 'N over 32 bits' "N: '4294967298' $no_word" format new2.card 8 4294967298
+misused 'a word missing' 'a word is missing: N' format new2.card 8
 check 'no file is made' [ ! -e new2.card ]
-run 2 'apply to a file that is not there' apply none.card one.batch
-run 2 'apply a batch that is not there' apply new.card none/one.batch
-run 2 'apply a folder' apply new.card .
-run 2 'apply three bytes' apply new.card odd.card
-run 2 'apply without a batch' apply new.card
-run 2 'look up a term that is no number' lookup case1.card five
-run 2 'look up a term over 32 bits' lookup case1.card 4294967296
-run 2 'look up to no number' lookup case1.card 5 1 -9
-run 2 'look up without a term' lookup case1.card
-run 2 'look up with half a range' lookup case1.card 5 1
-run 2 'look up with a word too many' lookup case1.card 5 1 9 9
-run 2 'look up in a file that is not there' lookup none.card 5
-faulty_page 'a page of a term that is no number' case1.card five
-faulty_page 'a page of a term over 32 bits' case1.card 4294967296
-faulty_page 'a page from no number' case1.card 5 one 9
-faulty_page 'a page to no number' case1.card 5 1 -9
-faulty_page 'a page without a card'
-faulty_page 'a page without a term' case1.card
-faulty_page 'a page with half a range' case1.card 5 1
-faulty_page 'a page with a word too many' case1.card 5 1 9 9
-faulty_page 'a page of a file that is not there' none.card 5
-faulty_page 'a page of three bytes' odd.card 5
-run 2 'an unknown command' frobnicate new.card
+faulty 'apply to a file that is not there' 'none.card: No such file or directory' apply none.card one.batch
+faulty 'apply a batch that is not there' 'none/one.batch: No such file or directory' apply new.card none/one.batch
+faulty 'apply a folder' '.: Is a directory' apply new.card .
+faulty 'apply three bytes' 'odd.card: 3 bytes are not a whole number of 32-bit words' apply new.card odd.card
+misused 'apply without a batch' 'a word is missing: BATCH' apply new.card
+for command in lookup page; do
+    faulty "$command: a term that is no number" "TERM: 'five' $no_word" $command case1.card five
+    faulty "$command: a term over 32 bits" "TERM: '4294967296' $no_word" $command case1.card 4294967296
+    faulty "$command: from no number" "FROM: 'one' $no_word" $command case1.card 5 one 9
+    faulty "$command: to no number" "TO: '-9' $no_word" $command case1.card 5 1 -9
+    misused "$command: no card" 'a word is missing: CARD' $command
+    misused "$command: no term" 'a word is missing: TERM' $command case1.card
+    misused "$command: half a range" 'a word is missing: TO' $command case1.card 5 1
+    misused "$command: a word too many" 'a word too many: 8' $command case1.card 5 1 9 8
+    faulty "$command: a file that is not there" 'none.card: No such file or directory' $command none.card 5
+    faulty "$command: three bytes" 'odd.card: 3 bytes are not a whole number of 32-bit words' $command odd.card 5
+done
+faulty 'an unknown command' 'frobnicate: there is no such command; gameindex help shows all' frobnicate new.card
 run 2 'no command'
+check 'no command: the help' cmp -s err usage
+check 'no command: nothing else is shown' [ ! -s out ]
 run 0 'help' help
-check 'twelve commands, in columns' [ "$(grep -Ec '^  [a-z ]{7} ([][A-Z ]{21}|--text [A-Z ]{14}|--resume [A-Z ]{12}) [a-z]' out)" -eq 12 ]
+check 'help: no other message' [ ! -s err ]
+run 0 'help as an option' --help
+check 'help as an option: the same' cmp -s out usage
+check 'nine commands, each with a line on what it does' [ "$(grep -A 1 -E '^  [a-z]+ .*[A-Z]' usage | grep -Ec '^      [a-z]')" -eq 9 ]
+check 'no option is shown that does nothing' [ "$(grep -Ec '^  --[a-z]+' usage)" -eq 5 ]
 
 echo "$passed passed, $failed failed"
 [ "$failed" -eq 0 ]

@@ -40,26 +40,26 @@ lines_leave '5 2,6 1,7 4,' 'lines in another order than the records' $'A 7 4\nA 
 
 # ---- number 14, in its place
 
-repeated='an arrival number of the batch is 0, or two of its records have the same'
-wrong_arrival() { # WHAT WORDS..: apply and fits refuse it in the same words, and the card stands
-    arrived arrival.batch "${@:2}"
-    declined 14 "$1" kept.card arrival.batch
-    check "$1: the words" cmp -s out <(echo "kept.card: refused, number 14: $repeated")
+repeated='arrival numbers are at least 1, and no two records of a batch have the same'
+wrong_arrival() { # RECORD WHAT WORDS..: apply and fits refuse it in the same words, and the card stands
+    arrived arrival.batch "${@:3}"
+    declined 14 "$2" kept.card arrival.batch
+    check "$2: the words" has err echo "arrival.batch: record $1 ($(echo "${@:3}" | cut -d' ' -f $((5 * $1 - 4))-$((5 * $1)))): refused, number 14: $repeated"
     rm -f arrival.log
     cp kept.card log.card
-    WRITE_LOG=arrival.log run_cut 1 "$1, logged" apply log.card arrival.batch
-    check "$1: no write" [ "$(tr '\n' ',' <arrival.log)" = 'sync,folder,' ]
+    WRITE_LOG=arrival.log run_cut 1 "$2, logged" apply log.card arrival.batch
+    check "$2: no write" [ "$(logged arrival.log)" = 'sync,folder,' ]
 }
-wrong_arrival 'an arrival number 0' 1 5 3 3 0
-wrong_arrival 'of a removal' 2 5 3 9 0
-wrong_arrival 'of an annulment' 3 0 3 9 0
-wrong_arrival 'of an empty range' 2 5 9 3 0
-wrong_arrival 'the last of three' 1 5 3 3 1 1 6 3 3 2 1 7 3 3 0
-wrong_arrival 'one number twice' 1 5 3 3 7 1 6 3 3 7
-wrong_arrival 'the highest twice' 1 5 3 3 4294967295 2 6 3 3 4294967295
-wrong_arrival 'twice, far apart' 3 0 9 9 2 1 5 3 3 1 1 6 3 3 2
-wrong_arrival 'twice, of empty ranges' 3 0 9 8 2 2 5 9 8 2
-wrong_arrival '14 before 7' 1 7 4 4 5 1 5 2 2 5
+wrong_arrival 1 'an arrival number 0' 1 5 3 3 0
+wrong_arrival 1 'of a removal' 2 5 3 9 0
+wrong_arrival 1 'of an annulment' 3 0 3 9 0
+wrong_arrival 1 'of an empty range' 2 5 9 3 0
+wrong_arrival 3 'the last of three' 1 5 3 3 1 1 6 3 3 2 1 7 3 3 0
+wrong_arrival 2 'one number twice' 1 5 3 3 7 1 6 3 3 7
+wrong_arrival 2 'the highest twice' 1 5 3 3 4294967295 2 6 3 3 4294967295
+wrong_arrival 3 'twice, far apart' 3 0 9 9 2 1 5 3 3 1 1 6 3 3 2
+wrong_arrival 2 'twice, of empty ranges' 3 0 9 8 2 2 5 9 8 2
+wrong_arrival 2 '14 before 7' 1 7 4 4 5 1 5 2 2 5
 arrived arrival.batch 1 7 4 4 1 1 5 2 2 2
 declined 7 '7 alone' kept.card arrival.batch
 arrived arrival.batch 1 7 4 5 0
@@ -84,14 +84,14 @@ converted() { # WHAT OLD WORDS: the new file's words; new.batch is what becomes 
 }
 arrived old.batch 3 0 1 4 1 3 1 1 2 5 1 9 1 5 2 2
 converted 'four records' old.batch ' 3 0 1 4 1 1 3 1 1 3 2 5 1 9 2 1 5 2 2 4 '
-check 'it says what it made' cmp -s out <(echo 'new.batch: 4 records of five words; by arrival 2 removals, then 2 additions')
+check 'it says what it made' has out echo 'new.batch: 4 records of five words; by arrival 2 removals, then 2 additions'
 cp new.batch twice.batch
 arrived old.batch 1 5 2 2
 converted 'an addition' old.batch ' 1 5 2 2 1 '
-check 'it says what it made' cmp -s out <(echo 'new.batch: 1 record of five words; by arrival 0 removals, then 1 addition')
+check 'it says what it made' has out echo 'new.batch: 1 record of five words; by arrival 0 removals, then 1 addition'
 arrived old.batch 2 5 9 3
 converted 'a removal with no game in it' old.batch ' 2 5 9 3 1 '
-check 'it says what it made' cmp -s out <(echo 'new.batch: 1 record of five words; by arrival 1 removal, then 0 additions')
+check 'it says what it made' has out echo 'new.batch: 1 record of five words; by arrival 1 removal, then 0 additions'
 arrived old.batch 1 5 2 2 1 5 2 2 2 5 2 9 2 5 3 9 1 5 4 4
 converted 'repeats' old.batch ' 1 5 2 2 3 1 5 2 2 4 2 5 2 9 1 2 5 3 9 2 1 5 4 4 5 '
 arrived old.batch 2 4294967295 1 4294967295 1 4294967295 4294967295 4294967295
@@ -99,11 +99,11 @@ converted 'the highest figures' old.batch ' 2 4294967295 1 4294967295 1 1 429496
 : >old.batch
 converted 'no records' old.batch ''
 check 'an empty file is made' [ -f new.batch -a ! -s new.batch ]
-check 'it says what it made' cmp -s out <(echo 'new.batch: 0 records of five words; by arrival 0 removals, then 0 additions')
+check 'it says what it made' has out echo 'new.batch: 0 records of five words; by arrival 0 removals, then 0 additions'
 seq 4096 | awk '{ print $1 % 3 == 0 ? "2 7 " $1 " 9" : "1 7 " $1 " " $1 }' >old.lines
 as_words <old.lines >old.batch
 converted '4,096 records' old.batch " $(numbered <old.lines | tr '\n' ' ')"
-check 'it says what it made' cmp -s out <(echo 'new.batch: 4096 records of five words; by arrival 1365 removals, then 2731 additions')
+check 'it says what it made' has out echo 'new.batch: 4096 records of five words; by arrival 1365 removals, then 2731 additions'
 arrived old.batch 1 5 2 2 2 6 1 9
 converted 'two records' old.batch ' 1 5 2 2 2 2 6 1 9 1 '
 mv new.batch file.batch
@@ -157,36 +157,36 @@ not_converted() { # WHAT MESSAGE: of old.batch
     rm -f new.batch
     cp old.batch before.batch
     run 1 "$1" convert old.batch new.batch
-    check "$1: the message" cmp -s out <(echo "old.batch: refused, $2")
-    check "$1: no other message" [ ! -s err ]
+    check "$1: the message" has err echo "old.batch: $2"
+    check "$1: nothing is shown" [ ! -s out ]
     check "$1: no file is made" [ ! -e new.batch ]
     check "$1: the old file stands" cmp -s old.batch before.batch
 }
 for count in 1 2 3 5 6 7 9 15; do
     # shellcheck disable=SC2046
     arrived old.batch $(seq "$count")
-    not_converted "$count words" "$count words are not a whole number of records of four words"
+    not_converted "$count words" "refused, $count words are not a whole number of records of four words"
 done
 run 1 '15 words from standard input' convert - new.batch <old.batch
-check 'its message' cmp -s out <(echo 'standard input: refused, 15 words are not a whole number of records of four words')
+check 'its message' has err echo 'standard input: refused, 15 words are not a whole number of records of four words'
 check 'no file is made' [ ! -e new.batch ]
 seq 4097 | awk '{ print 1, 7, $1, $1 }' | as_words >old.batch
-not_converted '4,097 records' 'more than 4,096 records of four words'
+not_converted '4,097 records' 'refused, more than 4,096 records of four words'
 head -c 65540 old.batch >part.batch && mv part.batch old.batch
-not_converted '4,096 records and a word' 'more than 4,096 records of four words'
+not_converted '4,096 records and a word' 'refused, more than 4,096 records of four words'
 yes old | head -c 1000000 >old.batch
-not_converted 'a million bytes' 'more than 4,096 records of four words'
-ill="the batch's length is no whole number of five-word records, it has more than 4,096 records, or a record is ill formed"
-falls='the records of the batch are not in order of term, then from'
+not_converted 'a million bytes' 'refused, more than 4,096 records of four words'
+ill='refused, number 6: a batch is at most 4,096 records of five words; kind 1, 2 or 3, term, from, to, arrival; term 0 goes with kind 3 alone; from and to are at least 1, and alike in an addition'
+falls='refused, number 7: the records of a batch are in order of term, then from'
 arrived old.batch 1 5 2 2 4 5 3 3
-not_converted 'a record of no kind' "number 6: $ill"
+not_converted 'a record of no kind' "record 2 (4 5 3 3 1): $ill"
 arrived old.batch 1 5 2 3
-not_converted 'an addition of two positions' "number 6: $ill"
+not_converted 'an addition of two positions' "record 1 (1 5 2 3 1): $ill"
 arrived old.batch 1 7 4 4 1 5 2 2
-not_converted 'records that fall' "number 7: $falls"
+not_converted 'records that fall' "record 2 (1 5 2 2 2): $falls"
 # a file that is converted already, whose words are as many as those of four-word records
 cp twice.batch old.batch
-not_converted 'a converted file' "number 6: $ill"
+not_converted 'a converted file' "record 2 (1 1 3 1 3): $ill"
 
 # four-word records that pass for five-word ones: nothing in the file tells them apart
 arrived old.batch 1 1 1 1 1 2 1 1 1 2 1 1 2 2 3 2 1 2 5 5
@@ -202,7 +202,7 @@ check 'they mean what they meant' [ "$(pairs both.card | tr '\n' ,)" = '1 1,2 1,
 # faults
 faulty_convert() { # WHAT FILE MESSAGE WORDS..: at fault, with the message alone
     run 2 "$1" convert "${@:4}"
-    check "$1: the message" cmp -s err <(echo "gameindex: $2: $3")
+    check "$1: the message" has err echo "gameindex: $2: $3"
     check "$1: nothing else is shown" [ ! -s out ]
 }
 printf 'kept' >there.batch
@@ -222,70 +222,59 @@ faulty_convert 'a folder for the old one' . 'Is a directory' . new.batch
 faulty_convert 'three bytes' odd.card '3 bytes are not a whole number of 32-bit words' odd.card new.batch
 faulty_convert 'standard output for the new one' - 'the new file must have a name; standard output is for messages' old.batch -
 check 'no file is made' [ ! -e new.batch -a ! -e ./- ]
-misused 'no file' convert
-misused 'no new file' convert old.batch
-misused 'a word too many' convert old.batch new.batch new.batch
-misused 'the option of another command' convert --text old.batch new.batch
+misused 'no file' 'a word is missing: OLD' convert
+misused 'no new file' 'a word is missing: NEW' convert old.batch
+misused 'a word too many' 'a word too many: third.batch' convert old.batch new.batch third.batch
+misused 'the option of another command' 'it has no option --text' convert --text old.batch new.batch
+misused 'an option that all others have' 'it has no option --wait' convert --wait 5 old.batch new.batch
 
-check 'help on the command' grep -qx '  convert OLD NEW               make a batch file of one with records of four words, as earlier boxes wrote them' usage
+check 'help on the command' grep -qx '  convert OLD NEW' usage
+check 'help on what it does' tells convert 'make a batch file of one with records of four words, as earlier boxes wrote them'
 check 'help on records' grep -qx 'cards and batches are files of 32-bit words, little-endian; a batch is records of five: kind (1 adds,' usage
 check 'help on arrival' grep -qx 'arrival numbers are at least 1, and no two records of a batch have the same; of all records that touch a' usage
 check 'help on what decides' grep -qx 'pair, the one with the greatest arrival number decides whether the pair is in the index' usage
 check 'help on old files' grep -q 'a file of four-word records whose length is a multiple of 20$' usage
 check 'help on telling them apart' grep -q '^file tells them apart, so convert old files once, and know which are which$' usage
 
-# ---- convert and the medium: a new file that was cut short is empty, or is refused wherever it is applied
+# ---- convert and the medium: a new file that was cut short is not there, or is whole
 
 arrived old.batch 2 5 2 9 1 5 9 9 1 7 4 4 1 8 1 1 # of the new file half is two whole records
 rm -f new.batch convert.log
 WRITE_LOG=convert.log run_cut 0 'the writes' convert old.batch new.batch
-check 'all words, and then the first' [ "$(tr '\n' ',' <convert.log)" = 'write 0 80,sync,folder,sync,folder,write 0 4,sync,' ]
+check 'all words under another name, then its own' [ "$(sed 's/new\.[0-9]*$/new.N/' convert.log | tr '\n' ,)" = \
+    'remove new.batch.new.N,put,file,name new.batch,folder,' ]
 cp new.batch whole.batch
 cp kept.card both.card
 run 0 'the whole file' apply both.card whole.batch
-torn() { # WHAT: the new file is refused, and convert does not write over it
-    cp kept.card both.card
-    run 1 "$1: applied" apply both.card new.batch
-    check "$1: number 6" grep -q ': refused, number 6:' out
-    check "$1: the card stands" cmp -s both.card kept.card
-    cp new.batch before.batch
-    faulty_convert "$1: again" new.batch 'File exists' old.batch new.batch
-    check "$1: it stands" cmp -s new.batch before.batch
-}
-for cut_at in '1 half' '1 after' '1 synced' '2 before'; do # a word is written whole or not at all
-    rm -f new.batch
-    KILL_WRITE=${cut_at% *} KILL_WHEN=${cut_at#* } run_cut 137 "killed, $cut_at" convert old.batch new.batch
-    torn "killed, $cut_at"
+for call in $(seq "$(wc -l <convert.log)"); do
+    for half in '' yes; do
+        rm -rf now left && mkdir now left
+        KILL_CALL=$call MEDIUM=now/medium expect 137 "killed at call $call $half" env ${half:+KILL_HALF=yes} "$cut" convert old.batch now/new.batch
+        for choice in $(seq 0 9); do
+            MEDIUM=now/medium "$cut" power-cut "$choice" left >/dev/null || break
+            check "killed at call $call $half, choice $choice: not there or whole" none_or_same left/new.batch whole.batch
+            rm -f left/*
+        done
+        check "killed at call $call $half: every choice" [ "$choice" -ge 1 ]
+        check "killed at call $call $half: not there or whole" none_or_same now/new.batch whole.batch
+        if [ -e now/new.batch ]; then
+            faulty "killed at call $call $half: it is there" 'now/new.batch: File exists' convert old.batch now/new.batch
+        else
+            run 0 "killed at call $call $half: again" convert old.batch now/new.batch
+        fi
+        check "killed at call $call $half: it is whole" cmp -s now/new.batch whole.batch
+    done
 done
-rm -f new.batch
-KILL_WRITE=1 KILL_WHEN=before run_cut 137 'killed, 1 before' convert old.batch new.batch
-check 'killed, 1 before: the file is empty' [ -e new.batch -a ! -s new.batch ]
-for cut_at in '2 after' '2 synced'; do
-    rm -f new.batch
-    KILL_WRITE=${cut_at% *} KILL_WHEN=${cut_at#* } run_cut 137 "killed, $cut_at" convert old.batch new.batch
-    check "killed, $cut_at: the file is whole" cmp -s new.batch whole.batch
-done
-for sync in 1 2; do
-    rm -f new.batch
-    FAIL_SYNC=$sync run_cut 2 "sync $sync fails" convert old.batch new.batch
-    check "sync $sync fails: no file is left" [ ! -e new.batch ]
-    check "sync $sync fails: nothing is shown" [ ! -s out ]
-done
-for sync in 3 4 5; do
-    rm -f new.batch
-    FAIL_SYNC=$sync run_cut 2 "sync $sync fails" convert old.batch new.batch
-    says_lost "sync $sync fails"
-    if [ "$sync" -lt 5 ]; then torn "sync $sync fails"; fi
-done
-for write in 1 2; do
-    rm -f new.batch
-    ZERO_WRITE=$write run_cut 2 "write $write gives 0" convert old.batch new.batch
-    check "write $write gives 0: nothing is shown" [ ! -s out ]
-done
-torn 'write 2 gives 0'
-rm -f new.batch
-ZERO_WRITE=1 run_cut 2 'write 1 gives 0' convert old.batch new.batch
-check 'write 1 gives 0: no file is left' [ ! -e new.batch ]
+rm -f new.batch*
+FAIL_SYNC=1 run_cut 2 'the sync of the file fails' convert old.batch new.batch
+says_not_made 'the sync of the file fails' new.batch
+check 'the sync of the file fails: no file is left' none_named new.batch
+FAIL_SYNC=2 run_cut 2 'the sync of the folder fails' convert old.batch new.batch
+says_lost 'the sync of the folder fails'
+check 'the sync of the folder fails: no file is left' none_named new.batch
+ZERO_PUT=1 run_cut 2 'the write gives 0' convert old.batch new.batch
+says_not_made 'the write gives 0' new.batch
+check 'the write gives 0: no file is left' none_named new.batch
 
 # ---- the standard streams: the new file is stream.card there
 
@@ -294,4 +283,4 @@ cp old.batch streams.batch
 streams 0 2 '' convert streams.batch stream.card
 streams 2 2 '' convert 'no such.batch' stream.card
 arrived part.batch 1 5 2
-streams 1 2 '' convert part.batch stream.card
+streams 1 1 '' convert part.batch stream.card

@@ -11,12 +11,14 @@ closed() { # STREAMS COMMAND..
 }
 full() { "$program" "$@" >/dev/full; }
 
-lay() { # CARD: stream.card is the card, or is not there
-    rm -f stream.card
+lay() { # CARD: stream.card is the card, with its note where it has one, or is not there
+    rm -f stream.card stream.card.pass
     if [ -n "$1" ]; then cp "$1" stream.card; fi
+    if [ -e "$1.pass" ]; then cp "$1.pass" stream.card.pass; fi
 }
-lies() { # CARD: stream.card is still the card, or not there
-    if [ -n "$1" ]; then cmp -s stream.card "$1"; else [ ! -e stream.card ]; fi
+lies() { # CARD: stream.card is the card, and its note, or not there
+    if [ -n "$1" ]; then cmp -s stream.card "$1"; else [ ! -e stream.card ]; fi &&
+        if [ -e "$1.pass" ]; then cmp -s stream.card.pass "$1.pass"; else [ ! -e stream.card.pass ]; fi
 }
 
 input=one.batch # standard input of every run
@@ -30,7 +32,9 @@ streams() { # STATUS LOST CARD COMMAND..: the exit status, that without standard
     lay "$card"
     run "$status" "${words[*]}" "${words[@]}" <"$input"
     cp err said
+    rm -f made.card made.card.pass
     if [ -e stream.card ]; then mv stream.card made.card && made=made.card; fi
+    if [ -e stream.card.pass ]; then mv stream.card.pass made.card.pass; fi
     for names in '' 0 1 2 01 02 12 012; do
         close_streams "$names" "$program"
         close_streams "$names" stdbuf -oL "$program"
@@ -57,12 +61,15 @@ says() { # STREAM: what was to be shown is lost, and the message names the strea
 cp case1.card kept.card
 streams 0 2 '' format stream.card 8 4
 streams 0 2 used.card format stream.card 8 4
-streams 1 2 kept.card format stream.card 8 5
+streams 1 1 kept.card format stream.card 8 5
+streams 1 1 kept.card format stream.card 8 4
+streams 0 2 kept.card format --force stream.card 8 4
 streams 0 2 kept.card judge stream.card
 streams 1 2 live.card judge stream.card
 streams 0 2 kept.card show stream.card
 streams 0 2 kept.card lookup stream.card 5
-streams 1 2 kept.card lookup stream.card 0
+streams 0 0 kept.card lookup stream.card 4
+streams 1 1 kept.card lookup stream.card 0
 streams 0 2 kept.card page stream.card 5
 streams 0 2 long.card page stream.card 5
 streams 0 0 kept.card page stream.card 4
@@ -70,7 +77,7 @@ streams 1 1 kept.card page stream.card 0
 streams 1 1 live.card page stream.card 5
 streams 0 2 kept.card apply stream.card more.batch
 streams 0 2 new.card apply stream.card -
-streams 1 2 kept.card apply stream.card order.batch
+streams 1 1 kept.card apply stream.card order.batch
 streams 2 2 kept.card apply stream.card 'no such.batch'
 streams 2 2 kept.card frobnicate stream.card
 expect 2 'help, closed: 1' closed 1 "$program" help

@@ -7,17 +7,27 @@ both() { # NAME
     awk '{ print $1 == "A" ? 1 : 2, $2, $3, $NF, NR }' "$1.text" | sort -s -k 2,2n -k 3,3n | as_words >"$1.batch"
 }
 
-# Text and words leave the same card and show the same.
-alike() { # STATUS WHAT CARD NAME: NAME.text and NAME.batch, each applied to the card
-    cp "$3" both.card
-    run "$1" "$2, as words" apply both.card "$4.batch"
+# Text and words leave the same card and the same note, and show the same.
+alike() { # STATUS WHAT CARD NAME OPTION..: NAME.text and NAME.batch, each applied to the card
+    lay_both "$3"
+    run "$1" "$2, as words" apply "${@:5}" both.card "$4.batch"
     mv both.card words.card
     mv out said
-    cp "$3" both.card
-    run "$1" "$2, as text" apply --text both.card "$4.text"
+    mv err told
+    rm -f words.card.pass
+    if [ -e both.card.pass ]; then mv both.card.pass words.card.pass; fi
+    lay_both "$3"
+    run "$1" "$2, as text" apply --text "${@:5}" both.card "$4.text"
     check "$2: the same card" cmp -s both.card words.card
+    check "$2: the same note" same_or_none both.card.pass words.card.pass
     check "$2: the same is shown" cmp -s out said
-    check "$2: no other message" [ ! -s err ]
+    check "$2: the same is said" cmp -s err told
+    if [ "$1" -eq 0 ]; then check "$2: no other message" [ ! -s err ]; fi
+}
+lay_both() { # CARD: both.card is the card, with its note where it has one
+    rm -f both.card.pass
+    cp "$1" both.card
+    if [ -e "$1.pass" ]; then cp "$1.pass" both.card.pass; fi
 }
 
 # ---- files that are applied
@@ -64,7 +74,9 @@ cp case1.card both.card
 run 0 'from standard input' apply --text both.card - <mixed.text
 check 'the same card as from the file' cmp -s both.card words.card
 cp case1.card both.card
-run 0 'from a pipe, in two parts' apply --text both.card - < <(head -c 20 mixed.text && sleep 0.1 && tail -c +21 mixed.text)
+mkfifo text.pipe
+{ head -c 20 mixed.text && sleep 0.1 && tail -c +21 mixed.text; } >text.pipe &
+run 0 'from a pipe, in two parts' apply --text both.card - <text.pipe
 check 'the same card' cmp -s both.card words.card
 cp case1.card ./-both.card
 cp mixed.text ./-mixed.text
@@ -74,15 +86,16 @@ check 'the same card' cmp -s ./-both.card words.card
 # ---- files that are refused
 
 form='a line must be A<tab>term<tab>position or R<tab>term<tab>from<tab>to, ended by a line feed without a carriage return; figures have no leading zeros and are at most 4,294,967,295'
-too_many='the file has more than 4,096 lines'
+figures='term, position, from and to are at least 1'
 bad() { # NUMBER LINE WHAT FILE: refused at the line, and the card stands
     local meaning=$form
-    if [ "$1" -eq 13 ]; then meaning=$too_many; fi
+    if [ "$1" -eq 6 ]; then meaning=$figures; fi
     cp case1.card before.card
     run 1 "$3" apply --text case1.card "$4" <line.text
-    check "$3: the message" cmp -s out <(echo "${4/#-/standard input}: line $2: refused, number $1: $meaning")
-    check "$3: no other message" [ ! -s err ]
+    check "$3: the message" has err echo "${4/#-/standard input}: line $2: refused, number $1: $meaning"
+    check "$3: nothing is shown" [ ! -s out ]
     check "$3: the card stands" cmp -s case1.card before.card
+    check "$3: no note" [ ! -e case1.card.pass ]
 }
 good=$'A\t5\t2\n'
 bad_line() { # WHAT LINE: the line, as printf has it, is refused wherever it stands
@@ -115,14 +128,22 @@ bad 12 1 'two bad lines' line.text
 sed 's/$/\r/' mixed.text >returns.text
 bad 12 1 'carriage returns in all lines' returns.text
 
-# too many lines; what settles it is in the first 143,395 bytes
+# more than 4,096 lines
 longest=$'R\t4294967295\t4294967295\t4294967295'
+applied() { # WHAT: line.text is applied to case 1, in so many parts as it has 4,096 lines
+    cp kept.card both.card
+    run 0 "$1" apply --text both.card line.text
+    check "$1: its parts" [ "$(grep -c 'the pass is finished' out)" -eq $((($(grep -c '' line.text) + 4095) / 4096)) ]
+    check "$1: no message" [ ! -s err ]
+    check "$1: the pairs" [ "$(pairs both.card)" = $'5 2\n5 9\n7 4' ]
+}
+cp case1.card kept.card
 { cat most.text && printf '%s\n' "$longest"; } >line.text
-bad 13 4097 '4,097 lines' line.text
+applied '4,097 lines'
 { cat most.text && printf '%s' "$longest"; } >line.text
-bad 13 4097 '4,097 lines, the last without a line feed' line.text
+applied '4,097 lines, the last without a line feed'
 { cat most.text && printf '%s\nbad' "$longest"; } >line.text
-bad 13 4097 'a bad line behind them' line.text
+bad 12 4098 'a bad line behind them' line.text
 { cat most.text && printf '%s\t' "$longest"; } >line.text
 bad 12 4097 'line 4,097 too long' line.text
 { cat most.text && echo; } >line.text
@@ -133,45 +154,77 @@ bad 12 4096 'line 4,096 bad, of 4,097' line.text
 bad 12 1 'line 1 empty, of 4,097' line.text
 
 # megabytes
-yes $'A\t5\t2' | head -n 1000000 >line.text
-bad 13 4097 'a million lines' line.text
 head -c 4000000 /dev/zero | tr '\0' 7 >line.text
 bad 12 1 'a line of four million figures' line.text
 { cat most.text && head -c 4000000 /dev/zero; } >line.text
 bad 12 4097 '4,096 lines and four million zero bytes' line.text
+{ yes $'A\t5\t2' | head -n 100000 && echo bad; } >line.text
+bad 12 100001 'a bad line behind a hundred thousand' line.text
 rm line.text
 
-# what the library refuses of a batch it refuses of its text, with the same number
-not_applied() { # NUMBER WHAT CARD NAME
-    alike 1 "$2" "$3" "$4"
-    check "$2: it names number $1" grep -q "^both.card: refused, number $1:" out
-    check "$2: the card stands" cmp -s both.card "$3"
+# what the library refuses of a batch it refuses of its text, with the same number: the text has the line, the batch the
+# record, which stands where the line's does
+ill_figures() { # LINE RECORD WHAT NAME
+    : >line.text
+    bad 6 "$1" "$3" "$4.text"
+    cp case1.card before.card
+    run 1 "$3, as words" apply case1.card "$4.batch"
+    check "$3, as words: the message" grep -q "^$4.batch: record $2 (.*): refused, number 6: a batch is at most 4,096 records" err
+    said_alone "$3, as words"
+    check "$3, as words: the card stands" cmp -s case1.card before.card
 }
 both wrong <<<$'A 5 2\nA 0 2'
-not_applied 6 'a term 0' case1.card wrong
+ill_figures 2 1 'a term 0' wrong
 both wrong <<<$'A 5 0\nA 5 2'
-not_applied 6 'a position 0' case1.card wrong
+ill_figures 1 1 'a position 0' wrong
 both wrong <<<'R 5 0 9'
-not_applied 6 'a removal from 0' case1.card wrong
+ill_figures 1 1 'a removal from 0' wrong
 both wrong <<<$'A 6 1\nR 5 9 0\nA 4 1'
-not_applied 6 'a removal to 0' case1.card wrong
+ill_figures 2 2 'a removal to 0' wrong
+both wrong <<<$'A 6 1\nR 5 9 0\nA 0 1\nA 4 0'
+ill_figures 2 1 'the first of several' wrong
+printf 'A\t5\t0\nA\t5\n' >line.text
+bad 12 2 'a figure 0 before a line of another form' line.text
+printf 'A\t5\nA\t5\t0\n' >line.text
+bad 12 1 'a figure 0 behind a line of another form' line.text
+rm line.text
+not_applied() { # NUMBER WHAT CARD NAME: refused alike, for the card
+    alike 1 "$2" "$3" "$4"
+    check "$2: it names number $1" grep -q "^both.card: refused, number $1:" err
+    check "$2: nothing is shown" [ ! -s out ]
+    check "$2: the card stands" cmp -s both.card "$3"
+}
 not_applied 4 'a card that is not sound' live.card three
 not_applied 1 'an empty card' empty.card three
 run 0 'format a card of two places' format full.card 8 2
 run 0 'fill it' apply --text full.card three.text
-alike 1 'a card without a place' full.card more
-check 'it names number 8' grep -q '^both.card: refused, number 8:' out
+not_applied 8 'a card without a place' full.card more
+check 'no note is made' [ ! -e both.card.pass ]
+alike 1 'a card without a place, anyway' full.card more --anyway
+check 'it names number 8' grep -q '^both.card: refused, number 8:' err
 check 'it shows what was done' grep -q 'stopped; 3 steps' out
 mv both.card open.card
+mv both.card.pass open.card.pass
 not_applied 8 'the same again' open.card more
+check 'the note stands' cmp -s both.card.pass open.card.pass
 alike 0 'an empty file ends the pass' open.card none
+check 'no note is left' [ ! -e both.card.pass ]
+rm open.card.pass
+alike 0 'an empty file ends it without a note' open.card none
+not_applied_open() { # WHAT NAME: refused alike, for the pass
+    alike 1 "$1" open.card "$2"
+    check "$1: a pass is open" grep -q '^both.card: refused, a pass is open: ' err
+    check "$1: the card stands" cmp -s both.card open.card
+}
+not_applied_open 'the same again without a note' more
+not_applied_open 'another without a note' three
 
 # ---- faults
 
 faulty_text() { # WHAT MESSAGE FILE: at fault, with the message alone, and the card stands
     cp case1.card before.card
     run 2 "$1" apply --text case1.card "$3"
-    check "$1: the message" cmp -s err <(echo "gameindex: $3: $2")
+    check "$1: the message" has err echo "gameindex: $3: $2"
     check "$1: nothing else is shown" [ ! -s out ]
     check "$1: the card stands" cmp -s case1.card before.card
 }
@@ -181,25 +234,27 @@ faulty_text 'a folder' 'Is a directory' .
 run 2 'a card that is not there' apply --text none.card three.text
 check 'no card is made' [ ! -e none.card ]
 
-run 0 'help' help
-mv out usage
-check 'help on the command' grep -qx "  apply   --text CARD FILE      apply a scorekeepers' file, or - for standard input" usage
-check 'help on its file' grep -qx "a scorekeepers' file is lines, the latest last: A<tab>term<tab>position adds, R<tab>term<tab>from<tab>to removes" usage
-misused() { # WHAT WORDS..: a fault of the command line: the help on standard error alone
-    run 2 "$1" "${@:2}"
-    check "$1: the message" cmp -s err usage
-    check "$1: nothing else is shown" [ ! -s out ]
-}
+check 'help on the command' grep -qx '  apply \[--text\] \[--resume\] \[--anyway\] \[--wait SECONDS\] CARD BATCH' usage
+check 'help on its option' grep -qx "  --text          BATCH is a scorekeepers' file" usage
+check 'help on its file' grep -qx "a scorekeepers' file is lines, the latest last: A<tab>term<tab>position adds, R<tab>term<tab>from<tab>to removes;" usage
+check 'help on its length' grep -qx 'it may have any length, and is applied in parts of 4,096 lines' usage
 cp new.card ./--text # an option is no card, whatever files there are
-misused 'no card and no file' apply --text
-misused 'no file' apply --text new.card
-misused 'a batch file alone' apply --text one.batch
-misused 'a word too many' apply --text new.card three.text three.text
-misused 'the option behind the card' apply new.card --text three.text
-misused 'another option' apply --words new.card one.batch
-misused 'the option of another command' judge --text new.card
+misused 'no card and no file' 'a word is missing: CARD' apply --text
+misused 'no file' 'a word is missing: BATCH' apply --text new.card
+misused 'a batch file alone' 'a word is missing: BATCH' apply --text one.batch
+misused 'a word too many' 'a word too many: three.text' apply --text new.card three.text three.text
+misused 'the option behind the card' 'options stand before the other words: --text' apply new.card --text three.text
+misused 'another option' 'it has no option --words' apply --words new.card one.batch
+misused 'the option of another command' 'it has no option --text' judge --text new.card
 check 'no card is touched' cmp -s new.card ./--text
 run 0 'a card with the name of the option' apply ./--text one.batch
+cp new.card ./--text
+run 0 'the same behind the end of the options' apply -- --text one.batch
+check 'it is applied' [ "$(pairs ./--text)" = $'5 2\n5 9\n7 4' ]
+cp new.card ./--text
+run 0 'as text' apply --text -- --text three.text
+check 'it is applied' [ "$(pairs ./--text)" = $'5 2\n5 9\n7 4' ]
+rm ./--text
 
 # ---- the medium
 
@@ -210,12 +265,13 @@ WRITE_LOG=text.log run_cut 0 'the writes of text' apply --text log.card mixed.te
 check 'they are the same, and synced alike' cmp -s text.log words.log
 cp case1.card log.card
 WRITE_LOG=refused.log run_cut 1 'the writes of text that is refused' apply --text log.card returns.text
-check 'there are none' [ "$(tr '\n' ',' <refused.log)" = 'sync,folder,' ]
+check 'there are none, and no sync' [ ! -e refused.log ]
 
 # cuts; and a pass that was cut is completed with the same batch, also in its other form
-apply=(apply --text) resume=(apply --text)
+apply=(apply --text) resume=(apply --text --resume)
 both change <<<$'R 9 1 7\nA 8 9\nR 8 2 2\nR 5 1 5\nA 8 6\nA 1 1\nA 7 9'
-run 0 'grow, as text' apply --text another.card <(tr ' ' '\t' <<<$'A 8 3\nA 8 2\nA 8 1\nA 7 4\nA 5 9\nA 5 2')
+both seeded <<<$'A 8 3\nA 8 2\nA 8 1\nA 7 4\nA 5 9\nA 5 2'
+run 0 'grow, as text' apply --text another.card seeded.text
 changed=$'1 1\n5 9\n7 4\n7 9\n8 1\n8 3\n8 6\n8 9'
 cuts 'change, as text' another.card change.text "$changed"
 for forms in 'apply --text,change.text,apply,change.batch' 'apply,change.batch,apply --text,change.text'; do
@@ -235,6 +291,6 @@ done
 input=more.text
 streams 0 2 kept.card apply --text stream.card more.text
 streams 0 2 kept.card apply --text stream.card -
-streams 1 2 kept.card apply --text stream.card returns.text
+streams 1 1 kept.card apply --text stream.card returns.text
 streams 2 2 kept.card apply --text stream.card 'no such.text'
 streams 2 2 kept.card apply --text stream.card
