@@ -56,7 +56,8 @@ static void show_progress(const struct progress *done, const struct input *input
             steps_of(done), card[GI_CONFIG_NEW_LENGTH], card[GI_CONFIG_OLD_LENGTH]);
 }
 
-/* Makes steps until the pass finishes, a step is refused or the file fails. */
+/* Makes steps until the pass finishes, a step is refused or the file fails. Before the
+ * last write it is noted which card the pass is done on. */
 static int run_pass(const struct card_file *card, const struct input *input, struct progress *done) {
     const struct batch *batch = &input->batch;
     bool terminal = isatty(STDERR_FILENO);

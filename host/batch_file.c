@@ -106,7 +106,7 @@ static size_t count_lines(const unsigned char *bytes, size_t length) {
 /* A text is read no further than to a line that is longer than any record: that line is
  * refused, whatever comes behind. */
 static bool enough_text(const unsigned char *bytes, size_t length, size_t count) {
-    /* a line that is too long has no feed in the new bytes, or in as many before */
+    /* no line feed in the new bytes, or in the last ones if the new ones are few */
     size_t last = count > GI_SCORES_LINE_BYTES ? count : GI_SCORES_LINE_BYTES + 1;
     last = last > length ? length : last;
     return last > GI_SCORES_LINE_BYTES && memchr(bytes + length - last, '\n', last) == NULL;
