@@ -15,42 +15,47 @@ TEST_FILES = tests/c/test_gameindex.c tests/c/format_judge.c tests/c/step.c test
 FAULTS_FILES = tests/c/fault_commands.c tests/c/faults.c tests/c/cuts.c tests/c/medium.c tests/c/calls.c tests/c/lock_rules.c tests/c/indexes.c
 FAULTS_CALLS = main open close read write pread pwrite fdatasync fsync fstat lstat stat access realpath rename renameat2 unlink fcntl getpid clock_gettime nanosleep malloc calloc realloc strdup strndup
 BESIDE_FILES = $(wildcard tests/c/beside*.c)
-C_FILES = $(wildcard include/*.h host/*.[ch] tests/c/*.[ch] bench/*.[ch])
+PREFIX = /usr/local
+VERSION = $(shell sed -n 's/^.define GI_VERSION_M[A-Z]* //p; s/^.define GI_VERSION_PATCH //p' $(HEADER) | paste -sd.)
+FILL_IN = sed -e 's,@VERSION@,$(VERSION),' -e 's,@PREFIX@,$(PREFIX),'
+PEERS_FILES = $(wildcard peers/*.c)
+PEERS_HEADERS = $(wildcard peers/*.h)
+PEERS_DIR = target/peers
+FUZZ_TARGETS = card batch question text host
+FUZZ_CC = clang $(WARNINGS) -O1 -g -fsanitize=fuzzer,address,undefined -fno-sanitize-recover=all -Iinclude -Ibench -Ihost
+FUZZ_SECONDS = 60
+FUZZ_SEED = $(shell date +%s)
+C_FILES = $(wildcard include/*.h host/*.[ch] tests/c/*.[ch] tests/format/*.[ch] bench/*.[ch] fuzz/*.[ch] peers/*.[ch])
 
 .DELETE_ON_ERROR:
-.PHONY: help run test pins bench fmt clean
+.PHONY: help run test install pins bench fuzz fuzz-corpus fuzz-tools peers fmt clean
 
 help:
-	@echo 'make run     build the library and the host program; make a card, apply a batch and a text file, annul, look up, print'
+	@echo 'make run     build the library and the program; a round'"'"'s day with a card, with a cut in the middle of a batch'
 	@echo 'make test    run the merge gate, .ci/run'
+	@echo 'make install put the program, the library, its header and the manual below PREFIX, /usr/local if not given'
 	@echo 'make pins    write tests/pins anew, which the gate holds the source to; read its diff'
 	@echo 'make bench   time the judge, steps, forecasts, lookups, pages and scores against plain C, and most against the judge'
+	@echo 'make fuzz    fuzz the library and the host program against plain C for FUZZ_SECONDS, 60 if not given'
+	@echo 'make peers   keep the same index in SQLite and in LMDB too, and show in one table what each takes; PEERS_DIR=FOLDER says where'
 	@echo 'make fmt     format Rattle, Rust and C files'
 	@echo 'make clean   remove all that was built'
 
-# additions of (5,2), (5,9), (7,4), (8,1) and the removal of 6 from 1 to 9; as text, the removal of 8 from 1 to 9, the addition of (5,4), one of
-# (6,1) that is taken back, and a removal with no game in it; then the removal of 4 to 9 under every term
-run: target/gameindex
-	rm -f target/demo.card
-	tests/c/words.sh  1 5 2 2 1  1 5 9 9 2  2 6 1 9 3  1 7 4 4 4  1 8 1 1 5 >target/demo.batch
-	target/gameindex format target/demo.card 8 4
-	target/gameindex apply target/demo.card target/demo.batch
-	target/gameindex judge target/demo.card
-	target/gameindex show target/demo.card
-	target/gameindex lookup target/demo.card 5
-	target/gameindex lookup target/demo.card 8 2 9
-	target/gameindex page target/demo.card 5
-	printf 'R\t8\t1\t9\nA\t5\t4\nA\t6\t1\nR\t6\t1\t1\nR\t7\t9\t3\n' >target/demo.scores
-	target/gameindex apply --text target/demo.card target/demo.scores
-	target/gameindex page target/demo.card 5
-	target/gameindex lookup target/demo.card 6
-	target/gameindex page target/demo.card 7
-	target/gameindex annul target/demo.card 4 9
-	target/gameindex page target/demo.card 5
-	target/gameindex lookup target/demo.card 7
+# a round's day, with a cut in the middle of a batch
+run: target/gamecard
+	examples/day.sh target/gamecard target/day
 
 test:
 	.ci/run
+
+# the program, the library of C functions, its header, a page of the manual and a file for pkg-config
+install: target/gamecard
+	mkdir -p $(DESTDIR)$(PREFIX)/bin $(DESTDIR)$(PREFIX)/include $(DESTDIR)$(PREFIX)/lib/pkgconfig $(DESTDIR)$(PREFIX)/share/man/man1
+	cp target/gamecard $(DESTDIR)$(PREFIX)/bin/
+	cp $(HEADER) $(DESTDIR)$(PREFIX)/include/
+	cp $(LIBRARY) $(DESTDIR)$(PREFIX)/lib/
+	$(FILL_IN) install/gameindex.pc.in >$(DESTDIR)$(PREFIX)/lib/pkgconfig/gameindex.pc
+	$(FILL_IN) install/gamecard.1.in >$(DESTDIR)$(PREFIX)/share/man/man1/gamecard.1
 
 pins:
 	.ci/pins write
@@ -70,6 +75,25 @@ bench: target/bench_judge target/bench_step target/bench_batches target/bench_lo
 	@echo
 	cd tests && GAMEINDEX_LIB_DIR=$(CURDIR)/target/staticlib cargo run -q --release --offline --example step_speed
 
+# outside the gate; PEERS_DIR is a folder on the medium that is to be measured
+peers: target/peers_run target/gamecard
+	@mkdir -p $(PEERS_DIR)
+	@target/peers_run $(PEERS_DIR) "$$(stat -f -c %T $(PEERS_DIR))" target/gamecard
+
+# Outside the gate: each target has its share of the seconds. What is found is kept below target/fuzz.
+fuzz: $(FUZZ_TARGETS:%=target/fuzz/%)
+	@fuzz/run.sh $(FUZZ_SECONDS) $(FUZZ_SEED) $(FUZZ_TARGETS)
+
+# makes the kept corpus anew of itself and of what was found since
+fuzz-corpus: $(FUZZ_TARGETS:%=target/fuzz/%)
+	@fuzz/renew.sh $(FUZZ_TARGETS)
+
+fuzz-tools:
+	@mkdir -p target/fuzz
+	@echo 'int LLVMFuzzerTestOneInput(void); int LLVMFuzzerTestOneInput(void) { return 0; }' | \
+	clang -fsanitize=fuzzer,address,undefined -x c -o target/fuzz/tools - 2>/dev/null || \
+	{ echo 'make fuzz needs clang and its runtime: apt-get install clang libclang-rt-dev (or libclang-rt-14-dev)'; false; }
+
 fmt:
 	rt fmt
 	cd tests && cargo fmt
@@ -87,11 +111,11 @@ $(LIBRARY): $(SOURCES)
 target/bin/scorekeeper: $(SOURCES)
 	rt check scorekeeper
 
-target/gameindex: $(HOST_FILES) $(HOST_HEADERS) $(HEADER) $(LIBRARY)
+target/gamecard: $(HOST_FILES) $(HOST_HEADERS) $(HEADER) $(LIBRARY)
 	$(CC) $(WARNINGS) $(OPTIMISE) -Iinclude -o $@ $(HOST_FILES) $(LIBRARY)
 
 # the host program as it is, but for a medium apart from its files, which power cuts, failing writes and failing syncs are tried on
-target/gameindex_cut: $(HOST_FILES) $(HOST_HEADERS) tests/c/power_cut.c $(HEADER) $(LIBRARY)
+target/gamecard_cut: $(HOST_FILES) $(HOST_HEADERS) tests/c/power_cut.c $(HEADER) $(LIBRARY)
 	$(CC) $(WARNINGS) $(OPTIMISE) -Iinclude -Wl,--wrap=main,--wrap=pwrite,--wrap=write,--wrap=fdatasync,--wrap=fsync,--wrap=rename,--wrap=renameat2,--wrap=unlink -o $@ $(HOST_FILES) tests/c/power_cut.c $(LIBRARY)
 
 # the same with every system call in the tests' hands, and text in parts of six lines
@@ -104,6 +128,10 @@ target/test_gameindex: $(TEST_FILES) tests/c/small_cards.h $(HEADER) $(LIBRARY)
 # runs the host program beside itself on one card
 target/host_beside: $(BESIDE_FILES) tests/c/beside.h $(HEADER) $(LIBRARY)
 	$(CC) $(WARNINGS) $(OPTIMISE) -Iinclude -o $@ $(BESIDE_FILES) $(LIBRARY)
+
+# makes the cards that the reader of the format and the program are held against each other on
+target/make_cards: tests/format/make_cards.c tests/format/draw.h $(HEADER) $(LIBRARY)
+	$(CC) $(WARNINGS) $(OPTIMISE) -Iinclude -o $@ $< $(LIBRARY)
 
 target/bench_judge: bench/judge.c bench/judge_c.c bench/judge_c.h $(BENCH_FILES) $(HEADER) $(LIBRARY)
 	$(BENCH_CC) -o $@ bench/judge.c bench/judge_c.c bench/bench.c $(LIBRARY)
@@ -122,3 +150,14 @@ target/bench_page: bench/page.c $(BENCH_FILES) $(HEADER) $(LIBRARY)
 
 target/bench_scores: bench/scores.c bench/scores_c.c bench/scores_c.h $(BENCH_FILES) $(HEADER) $(LIBRARY)
 	$(BENCH_CC) -o $@ bench/scores.c bench/scores_c.c bench/bench.c $(LIBRARY)
+
+target/peers_run: $(PEERS_FILES) $(PEERS_HEADERS) $(HEADER) $(LIBRARY)
+	@$(CC) -E -include sqlite3.h -include lmdb.h -x c /dev/null >/dev/null 2>&1 || { echo 'make peers needs these Debian packages: libsqlite3-dev liblmdb-dev'; exit 1; }
+	$(CC) $(WARNINGS) $(OPTIMISE) -Iinclude -o $@ $(PEERS_FILES) $(LIBRARY) -lsqlite3 -llmdb -lm
+
+# a fuzz target is the library beside the plain C of the benchmarks, or the host program in parts of six lines
+target/fuzz/card target/fuzz/batch target/fuzz/question: FUZZ_PEERS = fuzz/answers.c bench/judge_c.c bench/step_c.c bench/forecast_c.c bench/lookup_c.c
+target/fuzz/text: FUZZ_PEERS = -DPART_LINES=6 -Dmain=host_main bench/scores_c.c $(HOST_FILES)
+target/fuzz/host: FUZZ_PEERS = -DPART_LINES=6 -Dmain=host_main -Wl,--wrap=fsync,--wrap=fdatasync $(HOST_FILES)
+target/fuzz/%: fuzz/%.c fuzz/fuzz.c fuzz/answers.c fuzz/fuzz.h $(wildcard bench/*_c.[ch]) $(HOST_FILES) $(HOST_HEADERS) $(HEADER) $(LIBRARY) | fuzz-tools
+	$(FUZZ_CC) -o $@ $< fuzz/fuzz.c $(FUZZ_PEERS) $(LIBRARY)

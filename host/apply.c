@@ -13,12 +13,9 @@
 #include <string.h>
 #include <unistd.h>
 
-#include "batch_file.h"
 #include "card_file.h"
 #include "fits.h"
-#include "gameindex.h"
 #include "pass_file.h"
-#include "report.h"
 
 /* What a pass has done so far in this run: its writes by kind, of which each step makes
  * one, and the old places that it freed. */
@@ -60,7 +57,7 @@ static void show_progress(const struct progress *done, const struct input *input
  * last write it is noted which card the pass is done on. */
 static int run_pass(const struct card_file *card, const struct input *input, struct progress *done) {
     const struct batch *batch = &input->batch;
-    bool terminal = isatty(STDERR_FILENO);
+    bool terminal = telling() && isatty(STDERR_FILENO);
     int status = EXIT_DONE;
     while (status == EXIT_DONE && !done->finished) {
         uint32_t write;
@@ -87,21 +84,26 @@ static int run_pass(const struct card_file *card, const struct input *input, str
 
 static void show_writes(const struct card_file *card, const struct input *input, const char *what,
                         const struct progress *done) {
-    printf("%s: %s%s; %" PRIu64 " %s%s, as many writes (%" PRIu64 " %s%s, %" PRIu64 " %s, %" PRIu64 " %s%s); %" PRIu64
-           " old %s%s freed\n",
-           card->path, input->label, what, COUNTED(steps_of(done), "step"), COUNTED(done->blocks, "block"),
-           done->map_entries, done->map_entries == 1 ? "map entry" : "map entries",
-           COUNTED(done->configurations, "configuration"), COUNTED(done->freed, "place"));
+    tell("%s: %s%s; %" PRIu64 " %s%s, as many writes (%" PRIu64 " %s%s, %" PRIu64 " %s, %" PRIu64 " %s%s); %" PRIu64
+         " old %s%s freed\n",
+         card->path, input->label, what, COUNTED(steps_of(done), "step"), COUNTED(done->blocks, "block"),
+         done->map_entries, done->map_entries == 1 ? "map entry" : "map entries",
+         COUNTED(done->configurations, "configuration"), COUNTED(done->freed, "place"));
 }
 
 /* Shows how far a pass came that found no place for its next block. */
 static void show_reached(const struct card_file *card) {
     if (!pass_open(card))
-        printf("%s: no pass is open; the index is as it was\n", card->path);
+        tell("%s: no pass is open; the index is as it was\n", card->path);
     else
-        printf("%s: the pass stays open: it reached term %" PRIu32 ", position %" PRIu32
-               "; beyond that pair the index is as it was; an empty batch finishes the pass\n",
-               card->path, card->words[GI_CONFIG_BOUNDARY_TERM], card->words[GI_CONFIG_BOUNDARY_POSITION]);
+        tell("%s: the pass stays open: it reached term %" PRIu32 ", position %" PRIu32
+             "; beyond that pair the index is as it was; an empty batch finishes the pass\n",
+             card->path, card->words[GI_CONFIG_BOUNDARY_TERM], card->words[GI_CONFIG_BOUNDARY_POSITION]);
+}
+
+static void tell_configuration(const struct card_file *card) {
+    if (telling())
+        show_configuration(card->words);
 }
 
 /* Shows how many removals of a batch have their from above their to: such a range may
@@ -113,8 +115,8 @@ static void show_empty_ranges(const struct card_file *card, const struct input *
         ranges += record[0] != GI_RECORD_ADD && record[2] > record[3];
     }
     if (ranges != 0)
-        printf("%s: %s%" PRIu64 " %s%s with from above to, which %s nothing\n", card->path, input->label,
-               COUNTED(ranges, "removal"), ranges == 1 ? "removes" : "remove");
+        tell("%s: %s%" PRIu64 " %s%s with from above to, which %s nothing\n", card->path, input->label,
+             COUNTED(ranges, "removal"), ranges == 1 ? "removes" : "remove");
 }
 
 /* Makes the pass of the part in hand, shows its end and gives the exit status. */
@@ -127,7 +129,7 @@ static int make_pass(const struct card_file *card, const struct input *input) {
         status = refused(card->path, done.number);
         show_writes(card, input, "stopped", &done);
         show_reached(card);
-        show_configuration(card->words);
+        tell_configuration(card);
         return status;
     }
     show_writes(card, input, "the pass is finished", &done);
@@ -156,7 +158,7 @@ static int refuse_open(const struct card_file *card, const struct note *note) {
                 card->path, card->real);
     fprintf(
         stderr,
-        "%s: or end the pass where it stands, with an empty batch: gameindex apply %s /dev/null; what it moved stays, "
+        "%s: or end the pass where it stands, with an empty batch: gamecard apply %s /dev/null; what it moved stays, "
         "and no game is lost\n",
         card->path, card->path);
     return EXIT_REFUSED;
@@ -226,14 +228,13 @@ static int apply_parts(const struct card_file *card, struct input *input, const 
         noted = true;
     }
     note_remove(card->real);
-    show_configuration(card->words);
+    tell_configuration(card);
     return EXIT_DONE;
 }
 
 /* ---- the commands */
 
-/* Applies what was read to the card file of this name, and gives the exit status. */
-static int apply_to(const char *path, struct input *input, const struct options *options) {
+int apply_to(const char *path, struct input *input, const struct options *options) {
     struct card_file card;
     struct note note = {0};
     int status = card_open(&card, path, true, options->wait);
@@ -257,16 +258,4 @@ int run_apply(const struct options *options, char **words) {
         status = apply_to(words[0], &input, options);
     input_close(&input);
     return status;
-}
-
-int run_annul(const struct options *options, char **words) {
-    /* one record; its term is 0, its arrival number 1 */
-    static struct input input = {
-        .name = "the range",
-        .parts = 1,
-        .batch = {.words = {GI_RECORD_ANNUL, 0, 0, 0, 1}, .length = GI_RECORD_WORDS},
-    };
-    if (!parse_word("FROM", words[1], &input.batch.words[2]) || !parse_word("TO", words[2], &input.batch.words[3]))
-        return EXIT_FAULT;
-    return apply_to(words[0], &input, options);
 }

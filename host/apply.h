@@ -1,16 +1,11 @@
-/* The commands that apply a batch to a card file. Their first word is the card file;
- * they give the exit status. */
+/* What is applied to a card file, by apply and by annul. */
 #ifndef APPLY_H
 #define APPLY_H
 
-#include "options.h"
+#include "batch_file.h"
+#include "gamecard.h"
 
-/* Applies a file of batch words, or a scorekeepers' file. The second word is the file,
- * or "-" for standard input. */
-int run_apply(const struct options *options, char **words);
-
-/* Removes a range of positions under every term: applies the batch of one record that
- * says so. The second and third word are its ends. */
-int run_annul(const struct options *options, char **words);
+/* Applies what was read to the card file of this name, and gives the exit status. */
+int apply_to(const char *path, struct input *input, const struct options *options);
 
 #endif

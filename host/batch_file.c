@@ -10,7 +10,7 @@
 
 #include "checksum.h"
 #include "files.h"
-#include "report.h"
+#include "gamecard.h"
 #include "words.h"
 
 /* ---- words */

@@ -5,6 +5,8 @@
 
 #include <errno.h>
 #include <fcntl.h>
+#include <inttypes.h>
+#include <stdio.h>
 #include <stdlib.h>
 #include <string.h>
 #include <sys/stat.h>
@@ -12,8 +14,8 @@
 #include <unistd.h>
 
 #include "files.h"
+#include "gamecard.h"
 #include "gameindex.h"
-#include "report.h"
 #include "words.h"
 
 /* ---- bytes and words */
@@ -246,6 +248,19 @@ void card_close(struct card_file *card) {
 int card_judge(const struct card_file *card) {
     uint32_t number = gi_judge(card->words, card->length);
     return number == GI_DONE ? EXIT_DONE : refused(card->path, number);
+}
+
+int card_verdict(const struct card_file *card, bool all) {
+    uint32_t number = gi_judge(card->words, card->length);
+    if (number != GI_DONE || all)
+        printf("%s: %" PRIu32 ", %s\n", card->path, number, number == GI_DONE ? "sound" : gi_text(number));
+    if (number == GI_DONE && all && pass_open(card))
+        printf(
+            "%s: a pass is open: a batch is in the index up to term %" PRIu32 ", position %" PRIu32
+            ", and not beyond; a run is at work on it, or was cut short; the same batch goes on with it, and an empty "
+            "one ends it\n",
+            card->path, card->words[GI_CONFIG_BOUNDARY_TERM], card->words[GI_CONFIG_BOUNDARY_POSITION]);
+    return number == GI_DONE ? EXIT_DONE : EXIT_REFUSED;
 }
 
 bool pass_open(const struct card_file *card) {

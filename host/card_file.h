@@ -38,6 +38,10 @@ void card_close(struct card_file *card);
 /* Tells why a card is not sound and gives EXIT_REFUSED, or EXIT_DONE for a sound one. */
 int card_judge(const struct card_file *card);
 
+/* Shows the judge's number with its meaning and, of a sound card, whether a pass is open;
+ * of a sound card only if all is wanted. Gives EXIT_REFUSED where it is not sound. */
+int card_verdict(const struct card_file *card, bool all);
+
 /* Whether a pass is open on a sound card. */
 bool pass_open(const struct card_file *card);
 

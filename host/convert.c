@@ -1,16 +1,14 @@
 /* Gives the records of an old batch file arrival numbers. In a batch of four-word
  * records an addition won over every removal; so the removals get 1, 2 and so on, in
  * their order, and the additions the numbers behind them. The old file is only read. */
-#include "convert.h"
-
 #include <inttypes.h>
 #include <stdio.h>
 #include <string.h>
 
 #include "batch_file.h"
 #include "files.h"
+#include "gamecard.h"
 #include "gameindex.h"
-#include "report.h"
 
 enum { OLD_RECORD_WORDS = 4, OLD_WORDS_MAX = GI_BATCH_RECORDS_MAX * OLD_RECORD_WORDS };
 
@@ -48,8 +46,8 @@ static void number_records(const struct batch *old, struct batch *new) {
 static void show_converted(const char *path, const struct batch *old) {
     uint64_t records = old->length / OLD_RECORD_WORDS;
     uint64_t additions = count_additions(old);
-    printf("%s: %" PRIu64 " %s%s of five words; by arrival %" PRIu64 " %s%s, then %" PRIu64 " %s%s\n", path,
-           COUNTED(records, "record"), COUNTED(records - additions, "removal"), COUNTED(additions, "addition"));
+    tell("%s: %" PRIu64 " %s%s of five words; by arrival %" PRIu64 " %s%s, then %" PRIu64 " %s%s\n", path,
+         COUNTED(records, "record"), COUNTED(records - additions, "removal"), COUNTED(additions, "addition"));
 }
 
 int run_convert(const struct options *options, char **words) {

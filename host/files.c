@@ -11,7 +11,7 @@
 #include <sys/stat.h>
 #include <unistd.h>
 
-#include "report.h"
+#include "gamecard.h"
 #include "words.h"
 
 int open_file(const char *path, int flags) {

@@ -7,7 +7,6 @@
 
 #include "gameindex.h"
 #include "pass_file.h"
-#include "report.h"
 
 int foretell(struct forecast *told, const struct card_file *card, const struct input *input) {
     const struct batch *batch = &input->batch;
@@ -21,13 +20,13 @@ int foretell(struct forecast *told, const struct card_file *card, const struct i
 /* ---- what is shown */
 
 static void show_fits(const struct card_file *card, const struct input *input, const struct forecast *told) {
-    printf("%s: %sthe batch fits; ", card->path, input->label);
+    tell("%s: %sthe batch fits; ", card->path, input->label);
     if (told->blocks == 0)
-        printf("nothing remains to be put in a block, and the pass finishes in %" PRIu64 " %s%s\n",
-               COUNTED(told->limit, "step"));
+        tell("nothing remains to be put in a block, and the pass finishes in %" PRIu64 " %s%s\n",
+             COUNTED(told->limit, "step"));
     else
-        printf("the pass fills %" PRIu64 " %s%s and finishes within %" PRIu64 " %s%s\n", COUNTED(told->blocks, "block"),
-               COUNTED(told->limit, "step"));
+        tell("the pass fills %" PRIu64 " %s%s and finishes within %" PRIu64 " %s%s\n", COUNTED(told->blocks, "block"),
+             COUNTED(told->limit, "step"));
 }
 
 void show_no_room(FILE *out, const struct card_file *card, const struct input *input, const struct forecast *told) {
@@ -49,8 +48,8 @@ void show_no_room(FILE *out, const struct card_file *card, const struct input *i
 /* Says of a card whose pass is open what the answer is about. */
 static void show_open(const struct card_file *card, bool same) {
     if (pass_open(card))
-        printf("%s: a pass is open, and this is about going on with it%s\n", card->path,
-               same ? "" : "; apply refuses a batch other than the one that it was begun with");
+        tell("%s: a pass is open, and this is about going on with it%s\n", card->path,
+             same ? "" : "; apply refuses a batch other than the one that it was begun with");
 }
 
 /* ---- the parts of what is asked about */

@@ -1,14 +1,13 @@
-/* The command that tells whether a batch fits on a card file, and writes nothing. */
+/* What a pass on a card file will come to. */
 #ifndef FITS_H
 #define FITS_H
 
-#include <stdbool.h>
 #include <stdint.h>
 #include <stdio.h>
 
 #include "batch_file.h"
 #include "card_file.h"
-#include "options.h"
+#include "gamecard.h"
 
 /* What the library foretells of a pass. */
 struct forecast {
@@ -24,9 +23,5 @@ int foretell(struct forecast *told, const struct card_file *card, const struct i
 
 /* Tells that the part in hand does not fit, and what would help. */
 void show_no_room(FILE *out, const struct card_file *card, const struct input *input, const struct forecast *told);
-
-/* The words are those of apply. Gives the exit status, which is EXIT_NO_ROOM where it
- * does not fit. */
-int run_fits(const struct options *options, char **words);
 
 #endif

@@ -1,8 +1,6 @@
 /* Formats a card file: one that is there, or a new one. */
 #define _POSIX_C_SOURCE 200809L
 
-#include "format.h"
-
 #include <errno.h>
 #include <inttypes.h>
 #include <stdio.h>
@@ -12,9 +10,9 @@
 
 #include "card_file.h"
 #include "files.h"
+#include "gamecard.h"
 #include "gameindex.h"
 #include "pass_file.h"
-#include "report.h"
 
 /* ---- a file that is there */
 
@@ -96,7 +94,7 @@ int run_format(const struct options *options, char **words) {
         return fault(path, "%s", strerror(errno));
     int status = there ? format_existing(options, path, b, n) : format_new(path, b, n);
     if (status == EXIT_DONE)
-        printf("%s: %s, %" PRIu32 " places of %" PRIu32 " words\n", path, there ? "formatted" : "created and formatted",
-               n, b);
+        tell("%s: %s, %" PRIu32 " places of %" PRIu32 " words\n", path, there ? "formatted" : "created and formatted",
+             n, b);
     return status;
 }

@@ -17,7 +17,7 @@
 
 #include "checksum.h"
 #include "files.h"
-#include "report.h"
+#include "gamecard.h"
 #include "words.h"
 
 static const char title[] = "gameindex: what is being applied to the card beside this file\n";

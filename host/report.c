@@ -1,5 +1,5 @@
-/* What the commands tell: numbers with their meaning, configuration words. */
-#include "report.h"
+/* What the commands tell. */
+#include "gamecard.h"
 
 #include <inttypes.h>
 #include <stdarg.h>
@@ -7,37 +7,29 @@
 
 #include "gameindex.h"
 
-/* The meaning of each number, in plain words. */
-static const char *const meanings[] = {
-    [GI_DONE] = "sound",
-    [GI_CARD_LENGTH] = "the card's length is not what B and N ask for",
-    [GI_CARD_FORMAT] = "the card has an unknown format, or none",
-    [GI_CARD_CONFIGURATION] = "a configuration word is outside its limits",
-    [GI_CARD_BLOCKS] = "a live block, its map entry or the boundary is wrong",
-    [GI_FORMAT_LIMITS] = "B must be from 8 to 1,024 and N from 2 to 1,024",
-    [GI_BATCH_RECORD] =
-        "a batch is at most 4,096 records of five words; kind 1, 2 or 3, term, from, to, arrival; term 0 goes with "
-        "kind 3 alone; from and to are at least 1, and alike in an addition",
-    [GI_BATCH_ORDER] = "the records of a batch are in order of term, then from",
-    [GI_CARD_FULL] = "the card is full: the next block would leave no place free",
-    [GI_LOOKUP_RANGE] = "term and from must be at least 1, and from at most to",
-    [GI_LOOKUP_ANSWER] = "fewer words are lent than the answer or the batch has",
-    [GI_PAGE_MEMORY] = "the page memory is shorter than the page",
-    [GI_SCORES_LINE] =
-        "a line must be A<tab>term<tab>position or R<tab>term<tab>from<tab>to, ended by a line feed without "
-        "a carriage return; figures have no leading zeros and are at most 4,294,967,295",
-    [GI_SCORES_LINES] = "the file has more than 4,096 lines",
-    [GI_BATCH_ARRIVAL] = "arrival numbers are at least 1, and no two records of a batch have the same",
-};
+static bool silent;
 
-static const char *meaning(uint32_t number) {
-    return number < sizeof meanings / sizeof *meanings ? meanings[number] : "a number without a meaning here";
+void tell_quietly(bool quiet) {
+    silent = quiet;
+}
+
+bool telling(void) {
+    return !silent;
+}
+
+void tell(const char *form, ...) {
+    if (silent)
+        return;
+    va_list words;
+    va_start(words, form);
+    vprintf(form, words);
+    va_end(words);
 }
 
 int fault(const char *path, const char *form, ...) {
     va_list words;
     va_start(words, form);
-    fprintf(stderr, "gameindex: %s: ", path);
+    fprintf(stderr, "gamecard: %s: ", path);
     vfprintf(stderr, form, words);
     fputc('\n', stderr);
     va_end(words);
@@ -49,19 +41,14 @@ int no_memory(const char *path) {
 }
 
 int refused(const char *path, uint32_t number) {
-    fprintf(stderr, "%s: refused, number %" PRIu32 ": %s\n", path, number, meaning(number));
+    fprintf(stderr, "%s: refused, number %" PRIu32 ": %s\n", path, number, gi_text(number));
     return EXIT_REFUSED;
 }
 
 int refused_part(const char *path, const char *part, uint32_t number, const char *ground) {
     fprintf(stderr, "%s: %s: refused, number %" PRIu32 ": %s\n", path, part, number,
-            ground != NULL ? ground : meaning(number));
+            ground != NULL ? ground : gi_text(number));
     return EXIT_REFUSED;
-}
-
-int verdict(const char *path, uint32_t number) {
-    printf("%s: %" PRIu32 ", %s\n", path, number, meaning(number));
-    return number == GI_DONE ? EXIT_DONE : EXIT_REFUSED;
 }
 
 void show_configuration(const uint32_t *card) {

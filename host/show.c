@@ -1,33 +1,51 @@
 /* Shows a card file as a whole. */
-#include "show.h"
-
 #include <inttypes.h>
 #include <stdio.h>
 
 #include "card_file.h"
+#include "gamecard.h"
 #include "gameindex.h"
-#include "report.h"
+#include "walk.h"
 
-/* Shows the judge's number and, of a sound card, whether a pass is open. */
-static int show_verdict(const struct card_file *card) {
-    int status = verdict(card->path, gi_judge(card->words, card->length));
-    if (status == EXIT_DONE && pass_open(card))
-        printf(
-            "%s: a pass is open: a batch is in the index up to term %" PRIu32 ", position %" PRIu32
-            ", and not beyond; a run is at work on it, or was cut short; the same batch goes on with it, and an empty "
-            "one ends it\n",
-            card->path, card->words[GI_CONFIG_BOUNDARY_TERM], card->words[GI_CONFIG_BOUNDARY_POSITION]);
-    return status;
+/* Shows what the index of a sound card holds, and how full the card is. */
+static void show_index(const uint32_t *card) {
+    uint32_t places = card[GI_CONFIG_PLACES];
+    uint32_t live = card[GI_CONFIG_OLD_LENGTH] + card[GI_CONFIG_NEW_LENGTH];
+    uint64_t room = (uint64_t)live * card[GI_CONFIG_BLOCK_WORDS];
+    uint64_t pairs = 0;
+    uint64_t terms = 0;
+    uint32_t term = 0;
+    struct walk walk = walk_over(card);
+    struct run run;
+    while (walk_next(&walk, &run)) {
+        pairs += run.count;
+        terms += run.term != term;
+        term = run.term;
+    }
+    printf("\nindex\n");
+    printf("  %-20s %10" PRIu64 "\n", "pairs", pairs);
+    printf("  %-20s %10" PRIu64 "\n", "terms", terms);
+    printf("  %-20s %10" PRIu32 "  of %" PRIu32 "\n", "free places", places - live, places);
+    printf("  %-20s %10" PRIu64 "  of %" PRIu64 " in live blocks", "words in use", walk.entries, room);
+    if (room > 0)
+        printf(", %" PRIu64 " %%", 100 * walk.entries / room);
+    printf("\n");
 }
 
-int run_judge(const struct options *options, char **words) {
-    struct card_file card;
-    int status = card_open(&card, words[0], false, options->wait);
-    if (status != EXIT_DONE)
-        return status;
-    status = show_verdict(&card);
-    card_close(&card);
-    return status;
+/* Shows each place of a sound card as a letter. */
+static void show_circle(const uint32_t *card) {
+    enum { LINE = 64 };
+    uint32_t places = card[GI_CONFIG_PLACES];
+    uint32_t old_length = card[GI_CONFIG_OLD_LENGTH];
+    uint32_t live = old_length + card[GI_CONFIG_NEW_LENGTH];
+    printf("\nplaces: o old, n new, . free; after the last comes place 0 again");
+    for (uint32_t place = 0; place < places; place++) {
+        uint32_t ahead = (place + places - card[GI_CONFIG_OLD_START]) % places;
+        if (place % LINE == 0)
+            printf("\n%6" PRIu32 "  ", place);
+        putchar(ahead < old_length ? 'o' : ahead < live ? 'n' : '.');
+    }
+    printf("\n");
 }
 
 /* Shows the map entries of a segment of a sound card. */
@@ -69,7 +87,11 @@ int run_show(const struct options *options, char **words) {
     int status = card_open(&card, words[0], false, options->wait);
     if (status != EXIT_DONE)
         return status;
-    status = show_verdict(&card);
+    status = card_verdict(&card, true);
+    if (status == EXIT_DONE) {
+        show_index(card.words);
+        show_circle(card.words);
+    }
     if (is_card(&card))
         show_configuration(card.words);
     if (status == EXIT_DONE)

@@ -4,10 +4,21 @@
  * each place, then the places of B words each. Lengths are counts of words, the
  * length of a page's memory or of a file one of bytes. Every call takes any card,
  * whatever its words and its length, and any file: what is wrong with it comes
- * back as a number, and a refused call writes nothing. A pointer stands for as
- * many words or bytes as the length beside it says, for one word where there is
- * none, and is never NULL, not even where that length is 0. Memory that a call may
- * write is lent to it only once.
+ * back as a number, and a refused call writes nothing.
+ *
+ * Pointers and NULL: a pointer stands for as many words or bytes as the length
+ * beside it says, for one word where there is none. It is never NULL, not even where
+ * that length is 0: lend it any word of yours then. Words are aligned as uint32_t is.
+ * Memory that a call may write is lent to it only once; what a call only reads may
+ * overlap.
+ *
+ * Memory: a call keeps nothing and allocates nothing. It uses what it is lent and its
+ * stack: gi_step, gi_forecast and gi_scores up to some 160 KB, the others less than
+ * 1 KB, as measured on x86-64. Of the C library it needs memcpy and memset.
+ *
+ * Threads: there is no state behind the calls. Any of them may run at the same time as
+ * long as no memory that one of them may write is lent to another; so many threads can
+ * look up in one card, and none while gi_step or gi_format writes it.
  */
 #ifndef GAMEINDEX_H
 #define GAMEINDEX_H
@@ -18,6 +29,16 @@
 #ifdef __cplusplus
 extern "C" {
 #endif
+
+/* The version of this library and of the host program, as numbers and as text. A
+ * greater first number breaks what callers or cards rely on, a greater second one adds
+ * to it. */
+#define GI_VERSION_MAJOR 1
+#define GI_VERSION_MINOR 0
+#define GI_VERSION_PATCH 0
+#define GI_VERSION_QUOTED(version) #version
+#define GI_VERSION_JOINED(major, minor, patch) GI_VERSION_QUOTED(major.minor.patch)
+#define GI_VERSION GI_VERSION_JOINED(GI_VERSION_MAJOR, GI_VERSION_MINOR, GI_VERSION_PATCH)
 
 /* The numbers that a call can give. */
 enum {
@@ -38,6 +59,47 @@ enum {
     GI_SCORES_LINES = 13,      /* the file has more than 4,096 lines */
     GI_BATCH_ARRIVAL = 14      /* an arrival number is 0, or two records of the batch have the same */
 };
+
+/* A text for a number, without a line feed; the same memory in every call, not to be
+ * written. A number that no call gives has one too. */
+static inline const char *gi_text(uint32_t number) {
+    switch (number) {
+    case GI_DONE:
+        return "done";
+    case GI_CARD_LENGTH:
+        return "the card's length is not what B and N ask for";
+    case GI_CARD_FORMAT:
+        return "the card has an unknown format, or none";
+    case GI_CARD_CONFIGURATION:
+        return "a configuration word is outside its limits";
+    case GI_CARD_BLOCKS:
+        return "a live block, its map entry or the boundary is wrong";
+    case GI_FORMAT_LIMITS:
+        return "B must be from 8 to 1,024 and N from 2 to 1,024";
+    case GI_BATCH_RECORD:
+        return "a batch is at most 4,096 records of five words; kind 1, 2 or 3, term, from, to, arrival; term 0 goes "
+               "with kind 3 alone; from and to are at least 1, and alike in an addition";
+    case GI_BATCH_ORDER:
+        return "the records of a batch are in order of term, then from";
+    case GI_CARD_FULL:
+        return "the card is full: the next block would leave no place free";
+    case GI_LOOKUP_RANGE:
+        return "term and from must be at least 1, and from at most to";
+    case GI_LOOKUP_ANSWER:
+        return "fewer words are lent than the answer or the batch has";
+    case GI_PAGE_MEMORY:
+        return "the page memory is shorter than the page";
+    case GI_SCORES_LINE:
+        return "a line must be A<tab>term<tab>position or R<tab>term<tab>from<tab>to, ended by a line feed without a "
+               "carriage return; figures have no leading zeros and are at most 4,294,967,295";
+    case GI_SCORES_LINES:
+        return "the file has more than 4,096 lines";
+    case GI_BATCH_ARRIVAL:
+        return "arrival numbers are at least 1, and no two records of a batch have the same";
+    default:
+        return "a number that no call gives";
+    }
+}
 
 /* The limits of a card. */
 enum {
