@@ -582,7 +582,7 @@ static ssize_t write_messages(void *cookie, const char *bytes, size_t length) {
 
 /* Becomes the host program: its streams are the run's. */
 static void become_host(const char *const *words, const char *input) {
-    static char *arguments[32] = {"gameindex"};
+    static char *arguments[32] = {"gamecard"};
     int count = 1;
     while (words[count - 1] != NULL && count < 31) {
         arguments[count] = (char *)words[count - 1];

@@ -239,6 +239,8 @@ static void try_applies(void) {
         .applied = &nothing);
     TRY("annul", {"annul", "cards/card", "2", "7"}, .start = &live, .says = "the pass is finished",
         .applied = &annulment);
+    TRY("apply, quietly", {"apply", "cards/card", "in/change", "--quiet"}, .start = &live, .says = "",
+        .applied = &change);
     TRY("apply, too much", {"apply", "cards/card", "in/much"}, .start = &full, .status = 1, .says = "number 8");
     TRY("apply, too much, --anyway", {"apply", "--anyway", "cards/card", "in/much"}, .start = &full, .status = 1,
         .says = "stays open", .applied = &too_much);
@@ -312,6 +314,17 @@ static void try_readers(void) {
     TRY("page", {"page", "cards/card", "5"}, .start = &live, .says = "         5          1          2");
     TRY("page, a write pending", {"page", "cards/card", "5"}, .start = &open_pending, .says = "         5 ",
         .applied = &change, .base = &live);
+    TRY("lookup, several terms", {"lookup", "cards/card", "5", "8", "--from", "2"}, .start = &live, .says = "8\t2\n");
+    TRY("lookup, several terms, refused", {"lookup", "cards/card", "5", "0"}, .start = &live, .status = 1,
+        .says = "number 9");
+    TRY("page, several terms", {"page", "cards/card", "5", "8"}, .start = &live, .says = "         8          1");
+    TRY("dump", {"dump", "cards/card"}, .start = &live, .says = "1000\t7\n");
+    TRY("dump, pass open", {"dump", "cards/card"}, .start = &open_pending, .says = "1000\t7\n", .applied = &change,
+        .base = &live);
+    TRY("dump, not sound", {"dump", "cards/card"}, .start = &junk, .status = 1, .says = "number 2");
+    TRY("terms", {"terms", "cards/card"}, .start = &live, .says = "1000\t1\n");
+    TRY("terms, pass open", {"terms", "cards/card"}, .start = &open_pending, .says = "1000\t1\n", .applied = &change,
+        .base = &live);
     TRY("judge", {"judge", "cards/card"}, .start = &live, .says = "0, sound");
     TRY("judge, not sound", {"judge", "cards/card"}, .start = &junk, .status = 1, .says = "2, ");
     TRY("judge, pass open", {"judge", "cards/card"}, .start = &open_pending, .says = "a pass is open",

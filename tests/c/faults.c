@@ -217,12 +217,12 @@ static bool names_cause(const struct plan *plan, const struct call *call) {
 /* Whether the message of a fault names a file of the command or a standard stream. */
 static bool names_file(const struct scenario *scenario, const struct call *call) {
     if (call->kind == CALL_OUTPUT || call->kind == CALL_OUTPUT_CLOSE)
-        return says("gameindex: standard output: ");
+        return says("gamecard: standard output: ");
     if (call->kind == CALL_FCNTL)
-        return says("gameindex: /dev/null: ");
+        return says("gamecard: /dev/null: ");
     if (strcmp(call->name, "standard input") == 0)
-        return says("gameindex: standard input: ");
-    if (says("gameindex: standard input: "))
+        return says("gamecard: standard input: ");
+    if (says("gamecard: standard input: "))
         return scenario->input != NULL;
     for (int i = 1; scenario->words[i] != NULL; i++)
         if (strchr(scenario->words[i], '/') != NULL && says(scenario->words[i]))
@@ -235,7 +235,7 @@ static void check_fault(const struct scenario *scenario, const struct plan *plan
     bool card = strcmp(call->name, "card") == 0;
     const char *m = run->messages;
     int n = (int)run->messages_length;
-    check(says("gameindex: "), "no message of a fault: %.*s", n, m);
+    check(says("gamecard: "), "no message of a fault: %.*s", n, m);
     check(names_cause(plan, call), "the message does not name the cause: %.*s", n, m);
     check(names_file(scenario, call), "the message names no file of the command: %.*s", n, m);
     check(!says("finished") && !says("formatted") && !says("created"), "the message says what is not: %.*s", n, m);

@@ -330,15 +330,15 @@ check 'its positions, read back from their columns' [ "$(cut -c11- out | fold -w
 run 0 'help' help
 mv out usage
 tells() { grep -A 1 "^  $1 " usage | grep -qx "      $2"; } # COMMAND TEXT: the help's line on what the command does
-usage_of() { sed -n "s/^  \($1 .*\)/usage: gameindex \1/p" usage; }
+usage_of() { sed -n "s/^  \($1 .*\)/usage: gamecard \1/p" usage; }
 misused() { # WHAT MESSAGE COMMAND WORDS..: the message and how the command is used, on standard error alone
     run 2 "$1" "${@:3}"
-    check "$1: the message" has err echo "gameindex: $3: $2"$'\n'"$(usage_of "$3")"
+    check "$1: the message" has err echo "gamecard: $3: $2"$'\n'"$(usage_of "$3")"
     check "$1: nothing else is shown" [ ! -s out ]
 }
 faulty() { # WHAT MESSAGE COMMAND WORDS..: at fault, with the message alone
     run 2 "$1" "${@:3}"
-    check "$1: the message" has err echo "gameindex: $2"
+    check "$1: the message" has err echo "gamecard: $2"
     check "$1: nothing else is shown" [ ! -s out ]
 }
 no_word="is not a decimal number of at most 4,294,967,295"
@@ -367,6 +367,12 @@ no_word="is not a decimal number of at most 4,294,967,295"
 . "$here/host_parts.sh"
 # shellcheck source=tests/c/host_odd.sh
 . "$here/host_odd.sh"
+# shellcheck source=tests/c/host_dump.sh
+. "$here/host_dump.sh"
+# shellcheck source=tests/c/host_words.sh
+. "$here/host_words.sh"
+# shellcheck source=tests/c/host_install.sh
+. "$here/host_install.sh"
 
 # faults of files and of the command line go to stderr
 faulty 'judge a file that is not there' 'none.card: No such file or directory' judge none.card
@@ -390,12 +396,10 @@ for command in lookup page; do
     faulty "$command: to no number" "TO: '-9' $no_word" $command case1.card 5 1 -9
     misused "$command: no card" 'a word is missing: CARD' $command
     misused "$command: no term" 'a word is missing: TERM' $command case1.card
-    misused "$command: half a range" 'a word is missing: TO' $command case1.card 5 1
-    misused "$command: a word too many" 'a word too many: 8' $command case1.card 5 1 9 8
     faulty "$command: a file that is not there" 'none.card: No such file or directory' $command none.card 5
     faulty "$command: three bytes" 'odd.card: 3 bytes are not a whole number of 32-bit words' $command odd.card 5
 done
-faulty 'an unknown command' 'frobnicate: there is no such command; gameindex help shows all' frobnicate new.card
+faulty 'an unknown command' 'frobnicate: there is no such command; gamecard help shows all' frobnicate new.card
 run 2 'no command'
 check 'no command: the help' cmp -s err usage
 check 'no command: nothing else is shown' [ ! -s out ]
@@ -403,8 +407,8 @@ run 0 'help' help
 check 'help: no other message' [ ! -s err ]
 run 0 'help as an option' --help
 check 'help as an option: the same' cmp -s out usage
-check 'nine commands, each with a line on what it does' [ "$(grep -A 1 -E '^  [a-z]+ .*[A-Z]' usage | grep -Ec '^      [a-z]')" -eq 9 ]
-check 'no option is shown that does nothing' [ "$(grep -Ec '^  --[a-z]+' usage)" -eq 5 ]
+check 'eleven commands, each with a line on what it does' [ "$(grep -A 1 -E '^  [a-z]+ .*[A-Z]' usage | grep -Ec '^      [a-z]')" -eq 11 ]
+check 'no option is shown that does nothing' [ "$(grep -Ec '^  (-[a-z], )?--[a-z]+' usage)" -eq 9 ]
 
 echo "$passed passed, $failed failed"
 [ "$failed" -eq 0 ]

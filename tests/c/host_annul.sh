@@ -197,7 +197,7 @@ open_message() { # CARD WHY: err has the three lines that refuse another batch
     read -r term position <<<"$(configuration "$1" | cut -d' ' -f7,8)"
     sed -n 1p err | grep -qx "$1: refused, a pass is open: a batch is in the index up to term $term, position $position, and not beyond" &&
         sed -n 2p err | grep -q "^$1: $2" &&
-        sed -n 3p err | grep -qx "$1: or end the pass where it stands, with an empty batch: gameindex apply $1 /dev/null; what it moved stays, and no game is lost" &&
+        sed -n 3p err | grep -qx "$1: or end the pass where it stands, with an empty batch: gamecard apply $1 /dev/null; what it moved stays, and no game is lost" &&
         [ "$(wc -l <err)" -eq 3 ]
 }
 
@@ -328,7 +328,7 @@ printf 'abc' >odd.card
 faulty_card 'three bytes' '3 bytes are not a whole number of 32-bit words' odd.card
 check 'the bytes stand' [ "$(cat odd.card)" = abc ]
 
-check 'help on the command' grep -qx '  annul \[--resume\] \[--anyway\] \[--wait SECONDS\] CARD FROM TO' usage
+check 'help on the command' grep -qx '  annul \[--resume\] \[--anyway\] CARD FROM TO' usage
 check 'help on what it does' tells annul 'remove a range of running numbers under every term'
 check 'help on its option' grep -qx '  --resume        go on with an open pass where no file CARD.pass tells its batch' usage
 check 'help on its records' grep -qx 'term 0, removes from from to to under every term; a removal with from above to removes nothing' usage
@@ -344,8 +344,8 @@ misused 'the option and no range' 'a word is missing: FROM' annul --resume case1
 misused 'the option and half a range' 'a word is missing: TO' annul --resume case1.card 4
 misused 'the option and a range' 'a word is missing: TO' annul --resume 4 9
 misused 'the option and a word too many' 'a word too many: 8' annul --resume case1.card 4 9 8
-misused 'the option behind the card' 'options stand before the other words: --resume' annul case1.card --resume 4 9
-misused 'the option at the end' 'options stand before the other words: --resume' annul case1.card 4 9 --resume
+misused 'the option behind the card and half a range' 'a word is missing: TO' annul case1.card --resume 4
+misused 'the option at the end and half a range' 'a word is missing: TO' annul case1.card 4 --resume
 misused 'another option' 'it has no option --text' annul --text case1.card 4 9
 misused 'the option of another command' 'it has no option --resume' fits --resume case1.card one.batch
 check 'no card is touched' cmp -s case1.card ./--resume

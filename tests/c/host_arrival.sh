@@ -202,7 +202,7 @@ check 'they mean what they meant' [ "$(pairs both.card | tr '\n' ,)" = '1 1,2 1,
 # faults
 faulty_convert() { # WHAT FILE MESSAGE WORDS..: at fault, with the message alone
     run 2 "$1" convert "${@:4}"
-    check "$1: the message" has err echo "gameindex: $2: $3"
+    check "$1: the message" has err echo "gamecard: $2: $3"
     check "$1: nothing else is shown" [ ! -s out ]
 }
 printf 'kept' >there.batch

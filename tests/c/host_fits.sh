@@ -243,7 +243,7 @@ check 'its words' has err echo "line.text: line 4098: refused, number 12: $form"
 
 faulty_fits() { # WHAT FILE MESSAGE WORDS..: at fault, with the message alone
     run 2 "$1" fits "${@:4}"
-    check "$1: the message" has err echo "gameindex: $2: $3"
+    check "$1: the message" has err echo "gamecard: $2: $3"
     check "$1: nothing else is shown" [ ! -s out ]
 }
 cp ask.card before.card
@@ -259,7 +259,7 @@ for option in '' --text; do
 done
 check 'no card is made' [ ! -e none.card ]
 faulty_fits 'three bytes for a batch' odd.card '3 bytes are not a whole number of 32-bit words' ask.card odd.card
-check 'help on the command' grep -qx '  fits \[--text\] \[--wait SECONDS\] CARD BATCH' usage
+check 'help on the command' grep -qx '  fits \[--text\] CARD BATCH' usage
 check 'help on what it does' tells fits 'say whether the card has room to apply a batch; write nothing'
 check 'help on its exit status' [ "$(tail -n 1 usage)" = \
     'the output or the command line; of fits, 0 the batch fits, 3 it does not: the card is too full' ]
@@ -269,7 +269,7 @@ misused 'a word too many' 'a word too many: two.batch' fits ask.card one.batch t
 misused 'the option alone' 'a word is missing: CARD' fits --text
 misused 'the option and no file' 'a word is missing: BATCH' fits --text ask.card
 misused 'the option and a word too many' 'a word too many: more.text' fits --text ask.card three.text more.text
-misused 'the option behind the card' 'options stand before the other words: --text' fits ask.card --text three.text
+misused 'the option behind the card alone' 'a word is missing: BATCH' fits ask.card --text
 misused 'the option of another command' 'it has no option --resume' fits --resume ask.card one.batch
 misused 'another such option' 'it has no option --anyway' fits --anyway ask.card one.batch
 check 'the card stands' cmp -s ask.card before.card

@@ -111,7 +111,7 @@ mkdir form.card.folder
 rm -f form.card.pass && mkdir form.card.pass
 cp new.card form.card
 run 2 'a folder in the place of the note' format form.card 8 4
-check 'a folder in the place of the note: it is told' grep -qx 'gameindex: form.card: its note cannot be removed: Is a directory' err
+check 'a folder in the place of the note: it is told' grep -qx 'gamecard: form.card: its note cannot be removed: Is a directory' err
 check 'a folder in the place of the note: the card stands' cmp -s form.card new.card
 rm form.card
 run 2 'a folder in the place of the note of a new card' format form.card 8 4
@@ -202,7 +202,7 @@ made_or_not() { # WHAT NAME FILE WORDS..: of a command that makes FILE of that n
         rm -f now/*
         # shellcheck disable=SC2086
         expect 2 "$what, another is faster $way" env $way OTHER_FILE="now/$name" "$cut" "${@:4}"
-        check "$what, another is faster $way: the message" has err echo "gameindex: now/$name: File exists"
+        check "$what, another is faster $way: the message" has err echo "gamecard: now/$name: File exists"
         check "$what, another is faster $way: nothing is shown" [ ! -s out ]
         check "$what, another is faster $way: its file stands" [ -e "now/$name" -a ! -s "now/$name" ]
         check "$what, another is faster $way: no other is left" [ "$(find now -type f)" = "now/$name" ]

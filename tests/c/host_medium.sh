@@ -121,7 +121,7 @@ says_lost() { # WHAT: the last run has said what a failed sync means, and no mor
     check "$1: nothing else is shown" [ ! -s out ]
 }
 says_not_made() { # WHAT FILE: the last run has said that it could not make the file, and no more
-    check "$1: the message" grep -qx "gameindex: .*$2: Input/output error" err
+    check "$1: the message" grep -qx "gamecard: .*$2: Input/output error" err
     check "$1: nothing else is shown" [ ! -s out ]
 }
 

@@ -13,7 +13,7 @@ odd_card() { # FILE REASON-TO-READ REASON-TO-WRITE
         case $words in apply* | annul* | format*) reason=$3 ;; *) reason=$2 ;; esac
         # shellcheck disable=SC2086
         expect 2 "$words" timeout 5 "$program" $words </dev/null
-        check "$words: the message" has err echo "gameindex: $1: $reason"
+        check "$words: the message" has err echo "gamecard: $1: $reason"
         check "$words: nothing is shown" [ ! -s out ]
     done
 }
@@ -33,9 +33,9 @@ odd_card one.batch/card 'Not a directory' 'Not a directory'
 for words in 'judge /dev/tty' 'apply /dev/tty one.batch' 'format --force /dev/tty 8 4'; do # with no terminal, or with one
     # shellcheck disable=SC2086
     expect 2 "$words" timeout 5 "$program" $words </dev/null
-    check "$words: the message" grep -q '^gameindex: /dev/tty: ' err
+    check "$words: the message" grep -q '^gamecard: /dev/tty: ' err
     expect 2 "$words, with a terminal" timeout 5 script -qec "'$program' $words" /dev/null </dev/null
-    check "$words, with a terminal: the message" grep -q '^gameindex: /dev/tty: not a regular file' out
+    check "$words, with a terminal: the message" grep -q '^gamecard: /dev/tty: not a regular file' out
 done
 check 'no note is made' [ -z "$(find . -name '*.pass*' -newer pipe.card)" ]
 
@@ -182,7 +182,7 @@ nothing_shown 1 format case1.card 8 4
 
 # ---- wrong words are named
 
-for command in format apply fits annul convert lookup page judge show; do
+for command in format apply fits annul convert lookup page terms dump show judge; do
     case $command in
     format) few=(CARD B N) ;;
     apply | fits) few=(CARD BATCH) ;;
@@ -198,21 +198,20 @@ for command in format apply fits annul convert lookup page judge show; do
         given+=(5)
     done
     misused "$command, an option that there is not" 'it has no option --frob' $command --frob "${given[@]}"
-    misused "$command, an option written together" 'it has no option --wait=5' $command --wait=5 "${given[@]}"
+    misused "$command, a value for an option that has none" 'it has no option --quiet=5' $command --quiet=5 "${given[@]}"
     misused "$command, an option cut short" 'it has no option --w' $command --w "${given[@]}"
     misused "$command, three dashes" 'it has no option ---' $command --- "${given[@]}"
-    misused "$command, an option behind" 'options stand before the other words: --wait' $command "${given[@]}" --wait 5 5 5
+    misused "$command, the same behind" 'it has no option --frob' $command "${given[@]}" --frob
     case $command in
-    lookup | page)
-        misused "$command, half a range" 'a word is missing: TO' $command 5 5 5
-        misused "$command, a word too many" 'a word too many: more' $command 5 5 5 5 more
-        ;;
+    lookup | page) faulty "$command, a term that is none" "TERM: 'more' $no_word" $command 5 5 5 5 more ;;
     *) misused "$command, a word too many" 'a word too many: more' $command "${given[@]}" more ;;
     esac
     if [ $command = convert ]; then continue; fi
     misused "$command, --wait alone" 'a word is missing: SECONDS' $command --wait
+    misused "$command, --wait behind" 'a word is missing: SECONDS' $command "${given[@]}" --wait
     for seconds in '' x 1.5 -1 1s 4294967296 99999999999999999999999 ' 1'; do
         faulty "$command, --wait '$seconds'" "SECONDS: '$seconds' $no_word" $command --wait "$seconds" "${given[@]}"
+        faulty "$command, --wait='$seconds'" "SECONDS: '$seconds' $no_word" $command "${given[@]}" "--wait=$seconds"
     done
     faulty "$command, --wait before an option" "SECONDS: '--wait' $no_word" $command --wait --wait 5 "${given[@]}"
 done
@@ -229,9 +228,9 @@ cp case1.card ./-w
 run 0 'one dash is no option' judge -w
 run 0 'nor is one dash alone among them' lookup -w 5
 for wrong in frobnicate --text -- '' Apply 'apply ' help2; do
-    faulty "no command '$wrong'" "$wrong: there is no such command; gameindex help shows all" "$wrong" case1.card one.batch
+    faulty "no command '$wrong'" "$wrong: there is no such command; gamecard help shows all" "$wrong" case1.card one.batch
 done
-faulty 'help has no words' 'help: there is no such command; gameindex help shows all' help apply
+faulty 'help on no command' 'frobnicate: there is no such command; gamecard help shows all' help frobnicate
 
 # ---- writes that fail: what is there is a card, and the same command goes on
 
@@ -243,7 +242,7 @@ write_fails() { # WRITE WHAT REASON ASSIGNMENTS
     cp games.card odd.file
     # shellcheck disable=SC2086
     expect 2 "$2" env $4 "$cut" apply odd.file mine.batch
-    check "$2: the message" has err echo "gameindex: odd.file: $3; $goes"
+    check "$2: the message" has err echo "gamecard: odd.file: $3; $goes"
     check "$2: nothing is shown" [ ! -s out ]
     run 0 "$2: the card is sound" judge odd.file
     check "$2: the note is there" [ -s odd.file.pass ]
@@ -283,7 +282,7 @@ cp new.card odd.file
 for failure in 'FAIL_WRITE=1 FAIL_WRITE_ERROR=28' ZERO_WRITE=1; do
     # shellcheck disable=SC2086
     expect 2 "format, $failure" env $failure "$cut" format odd.file 8 4
-    check "format, $failure: the message" grep -q '^gameindex: odd.file: ' err
+    check "format, $failure: the message" grep -q '^gamecard: odd.file: ' err
     check "format, $failure: the card stands" cmp -s odd.file new.card
     run 0 "format, $failure: again" format odd.file 8 4
 done

@@ -275,6 +275,11 @@ for place in $(seq 0 8); do
     check "a note of part 1, place $place: a pass is open" grep -q '^now/card: refused, a pass is open: ' err
     check "a note of part 1, place $place: the card stands" cmp -s now/card before.card
 done
+cp now/card still.card
+cp second.pass still.card.pass
+run 0 'an empty batch in part 2, quietly' apply --quiet still.card none.batch
+check 'an empty batch in part 2, quietly: the warning stays' grep -q '^still.card: not applied to its end: part 2 of 3 of a text' err
+check 'an empty batch in part 2, quietly: and nothing else' [ "$(wc -l <err)" -eq 1 -a ! -s out ]
 cp second.pass now/card.pass
 run 0 'an empty batch in part 2' apply now/card none.batch
 check 'an empty batch in part 2: what was not applied is told' grep -q \

@@ -199,7 +199,7 @@ unreadable() { # WHAT REASON: with a pass open and with none, nothing is done
         for words in 'apply pass.card mine.batch' 'apply --resume pass.card mine.batch' 'apply pass.card other.batch' 'annul pass.card 5 8' 'fits pass.card mine.batch'; do
             # shellcheck disable=SC2086
             run 2 "$1, open: $open, $words" $words
-            check "$1, open: $open, $words: the message" grep -qx "gameindex: .*/pass.card.pass: $2" err
+            check "$1, open: $open, $words: the message" grep -qx "gamecard: .*/pass.card.pass: $2" err
             said_alone "$1, open: $open, $words"
             check "$1, open: $open, $words: the card stands" cmp -s pass.card before.card
         done

@@ -224,7 +224,7 @@ not_applied_open 'another without a note' three
 faulty_text() { # WHAT MESSAGE FILE: at fault, with the message alone, and the card stands
     cp case1.card before.card
     run 2 "$1" apply --text case1.card "$3"
-    check "$1: the message" has err echo "gameindex: $3: $2"
+    check "$1: the message" has err echo "gamecard: $3: $2"
     check "$1: nothing else is shown" [ ! -s out ]
     check "$1: the card stands" cmp -s case1.card before.card
 }
@@ -234,7 +234,7 @@ faulty_text 'a folder' 'Is a directory' .
 run 2 'a card that is not there' apply --text none.card three.text
 check 'no card is made' [ ! -e none.card ]
 
-check 'help on the command' grep -qx '  apply \[--text\] \[--resume\] \[--anyway\] \[--wait SECONDS\] CARD BATCH' usage
+check 'help on the command' grep -qx '  apply \[--text\] \[--resume\] \[--anyway\] CARD BATCH' usage
 check 'help on its option' grep -qx "  --text          BATCH is a scorekeepers' file" usage
 check 'help on its file' grep -qx "a scorekeepers' file is lines, the latest last: A<tab>term<tab>position adds, R<tab>term<tab>from<tab>to removes;" usage
 check 'help on its length' grep -qx 'it may have any length, and is applied in parts of 4,096 lines' usage
@@ -243,7 +243,8 @@ misused 'no card and no file' 'a word is missing: CARD' apply --text
 misused 'no file' 'a word is missing: BATCH' apply --text new.card
 misused 'a batch file alone' 'a word is missing: BATCH' apply --text one.batch
 misused 'a word too many' 'a word too many: three.text' apply --text new.card three.text three.text
-misused 'the option behind the card' 'options stand before the other words: --text' apply new.card --text three.text
+misused 'the option alone behind the card' 'a word is missing: BATCH' apply new.card --text
+misused 'a word too many behind it' 'a word too many: three.text' apply new.card three.text --text three.text
 misused 'another option' 'it has no option --words' apply --words new.card one.batch
 misused 'the option of another command' 'it has no option --text' judge --text new.card
 check 'no card is touched' cmp -s new.card ./--text
