@@ -1,4 +1,7 @@
 // A batch of updates: records of five words, kind, term, from, to and arrival number.
+
+#![tactic(auto)]
+
 ghost use Rattle.std.specs.Prelude.{◌≡◌, ◌/◌, ◌≤◌, ◌<◌, eqb, length, take};
 ghost use Rattle.std.proofs.lemmas.List.Edits.{sets};
 ghost use Rattle.pair.specs.Rank.{rank};

@@ -1,4 +1,7 @@
 // A block of words: entries of a term, a count and that many positions.
+
+#![tactic(auto)]
+
 ghost use Rattle.std.specs.Prelude.{◌≡◌, ◌≤◌, length, drop};
 ghost use Rattle.pair.specs.Rising.{rising_from};
 ghost use Rattle.block.specs.Block.{zeros};

@@ -1,4 +1,7 @@
 // The card: 8 configuration words, the map, the places. The formatter, and the number of a configuration.
+
+#![tactic(auto)]
+
 ghost use Rattle.std.specs.Prelude.{◌≡◌, cond, ◌&&◌, ◌≤◌, ltb, eqb};
 ghost use Rattle.pair.specs.Tests.{first_of};
 ghost use Rattle.block.specs.Block.{block_size_most};

@@ -1,4 +1,7 @@
 // Numbers as decimal figures, read from bytes and written into them.
+
+#![tactic(auto)]
+
 ghost use Rattle.std.specs.Prelude.{◌≡◌, ◌%◌, ◌<◌, length};
 ghost use Rattle.pair.specs.Rank.{word_limit};
 ghost use Rattle.figures.specs.Figures.{figure, decimal};

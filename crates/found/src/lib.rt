@@ -1,4 +1,7 @@
 // What is found of a term in a range of positions, by a walk over the blocks that may hold it.
+
+#![tactic(auto)]
+
 ghost use Rattle.std.specs.Prelude.{◌≡◌};
 ghost use Rattle.found.specs.Found.{question_number};
 

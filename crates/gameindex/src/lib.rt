@@ -1,4 +1,7 @@
 // The C functions of the game index: numbers and word slices over the crates below. include/gameindex.h declares them.
+
+#![tactic(auto)]
+
 ghost use Rattle.std.specs.Prelude.{◌≡◌};
 ghost use Rattle.card.specs.Layout.{format_number, formatted};
 ghost use Rattle.card.specs.Sound.{judged};

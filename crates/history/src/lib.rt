@@ -1,1 +1,3 @@
 // The history of a card and the claims about passes, defined and proved; no code.
+
+#![tactic(auto)]

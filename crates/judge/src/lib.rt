@@ -1,4 +1,7 @@
 // The judge: a card's number, from its configuration words and a walk over its live blocks.
+
+#![tactic(auto)]
+
 ghost use Rattle.std.specs.Prelude.{◌≡◌, ◌&&◌};
 ghost use Rattle.card.specs.Layout.{place_count, old_places, around};
 ghost use Rattle.card.specs.Sound.{first_reaches, judged};

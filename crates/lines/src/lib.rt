@@ -1,4 +1,7 @@
 // The scorekeepers' file: lines of text, one record a line, and the batch that it makes.
+
+#![tactic(auto)]
+
 ghost use Rattle.std.specs.Prelude.{◌≡◌, ◌+◌, ◌*◌, ◌<◌, ◌≤◌, [], ◌∷◌, length};
 ghost use Rattle.std.proofs.lemmas.List.Edits.{sets};
 ghost use Rattle.batch.specs.Batch.{record_words, records_most};

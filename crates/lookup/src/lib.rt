@@ -1,4 +1,7 @@
 // Looking up a term in a range of positions.
+
+#![tactic(auto)]
+
 ghost use Rattle.std.specs.Prelude.{◌≡◌, ◌+◌, ◌*◌};
 ghost use Rattle.pair.specs.Bounds.{lowest, highest};
 ghost use Rattle.found.specs.Found.{question_number, lookup};

@@ -1,4 +1,7 @@
 // A block in hand: pairs are put into its words one after the other.
+
+#![tactic(auto)]
+
 ghost use Rattle.std.specs.Prelude.{◌≡◌, length};
 ghost use Rattle.pair.specs.Rank.{term};
 ghost use Rattle.block.specs.Block.{cost};

@@ -1,4 +1,7 @@
 // The bulletin page: a lookup's postings as lines of text.
+
+#![tactic(auto)]
+
 ghost use Rattle.std.specs.Prelude.{◌≡◌, ◌+◌, ◌*◌, ◌≤◌, length};
 ghost use Rattle.page.specs.Page.{line_fields, field_bytes, line_bytes, printed};
 ghost use Rattle.page.specs.Answer.{answer_of};

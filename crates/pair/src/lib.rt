@@ -1,4 +1,7 @@
 // A pair of a term and a position, ordered by term, then position. Its rank is the pair as one number in the same order.
+
+#![tactic(auto)]
+
 ghost use Rattle.std.specs.Prelude.{◌≡◌};
 ghost use Rattle.pair.specs.Bounds.{lowest, highest, is_pair};
 ghost use Rattle.pair.specs.Rank.{rank, term, position};

@@ -1,1 +1,3 @@
 // Every claim once more, its statement written out; no code.
+
+#![tactic(auto)]

@@ -1,4 +1,7 @@
 // The posting reader: the card beside a place in it.
+
+#![tactic(auto)]
+
 ghost use Rattle.std.specs.Prelude.{◌≡◌};
 ghost use Rattle.found.specs.Found.{question_number};
 ghost use Rattle.reader.specs.code.Cursor.{CursorAfter, CursorStep};

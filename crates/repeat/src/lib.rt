@@ -1,4 +1,7 @@
 // Whether a number stands twice among many: each goes to a slot of its own if it can, and only those that find another there are looked at again.
+
+#![tactic(auto)]
+
 ghost use Rattle.std.specs.Prelude.{◌≡◌, ◌+◌, ◌*◌, ◌/◌, ◌≤◌, ◌<◌, length, take};
 ghost use Rattle.sort.specs.Sort.{key_at, record_at};
 ghost use Rattle.repeat.specs.Repeats.{repeats};

@@ -1,4 +1,7 @@
 // The scorekeepers' program: reads a file from standard input and prints one line, what its pass came to.
+
+#![tactic(auto)]
+
 ghost use Rattle.std.specs.Prelude.{◌≤◌, length};
 
 use libc::{STDIN_FILENO, STDOUT_FILENO};

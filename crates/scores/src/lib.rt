@@ -1,4 +1,7 @@
 // The outcome of a scorekeepers' file: its batch taken through a pass on a fresh card, and the line that is printed of it.
+
+#![tactic(auto)]
+
 ghost use Rattle.std.specs.Prelude.{◌≡◌, ◌<◌, ◌≤◌, length};
 ghost use Rattle.std.proofs.lemmas.List.Edits.{sets};
 ghost use Rattle.pair.specs.Rank.{word_limit};

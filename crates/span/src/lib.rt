@@ -1,4 +1,7 @@
 // Where a write of a step stands in the card, for whoever brings it to a medium.
+
+#![tactic(auto)]
+
 ghost use Rattle.std.specs.Prelude.{◌≡◌};
 ghost use Rattle.span.specs.Span.{write_span};
 

@@ -1,4 +1,7 @@
 // One step of a pass: the due block, its map entry, or the configuration words are written, the first of these that differs.
+
+#![tactic(auto)]
+
 ghost use Rattle.std.specs.Prelude.{◌≡◌, ◌+◌, ◌≤◌, length, replicate};
 ghost use Rattle.std.proofs.lemmas.List.Edits.{sets};
 ghost use Rattle.pair.specs.Tests.{same};

@@ -1,4 +1,7 @@
 // The wanted positions of a term, those above one position and at most another, as a part of the words that hold them.
+
+#![tactic(auto)]
+
 ghost use Rattle.std.specs.Prelude.{◌≡◌, drop};
 ghost use Rattle.block.specs.code.Scan.{reads_on};
 ghost use Rattle.wanted.specs.code.Wanted.{UpTo, EntryPart, BlockPart};
