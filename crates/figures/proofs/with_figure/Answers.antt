@@ -1,0 +1,16 @@
+-- `figures::with_figure` meets its contract: a law for each way out.
+use native.Mathlib.Omega.{arith}
+use mathlib.Core.Path.{sym}
+use Rattle.figures.proofs.Reading.{figured, figured_large, figured_other, no_figure, a_figure}
+use Rattle.figures.proofs.with_figure.Goals as goal
+
+pub returns-then-byte : goal.returns-then-byte
+returns-then-byte c = sym (figured_other _ _ (no_figure _ c.if-byte.true))
+
+pub returns-then-longer-ge-NO_NUMBER : goal.returns-then-longer-ge-NO_NUMBER
+returns-then-longer-ge-NO_NUMBER c = sym (figured_large _ _ (omega (arith, c.if-longer-ge-NO_NUMBER.true, c.wide.ensures)))
+
+pub returns : goal.returns
+returns c =
+    let e = c.wide.ensures in
+    rw e (sym (figured _ _ (a_figure _ c.if-byte.false) (omega (arith, c.if-longer-ge-NO_NUMBER.false, e))))
