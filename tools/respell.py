@@ -54,12 +54,17 @@ def read(path):
         return f.read()
 
 
+def is_made(path):
+    """Whether it is a function's proof, which lies in a folder of its own."""
+    return os.path.basename(path) in MADE and os.path.basename(os.path.dirname(path)) != 'proofs'
+
+
 def declared(path):
     """The names that a file declares, but for those that Rattle may have made."""
     text = re.sub(r'--[^\n]*', '', read(path))
     top = re.findall(rf'(?m)^(?:(?:pub|unfoldable|abbrev) )*({WORD})(?: \{{[^{{}}\n]*\}})*\s+:(?!=)', text)
     for name in top:
-        if '-' not in name or os.path.basename(path) not in MADE:
+        if '-' not in name or not is_made(path):
             yield name
     yield from re.findall(rf'(?m)^ +pub ({WORD})(?: \{{[^{{}}\n]*\}})* :', text)
     yield from re.findall(rf'(?m)^(?:pub )?ruleset ({WORD})', text)

@@ -34,28 +34,28 @@ asked c t a z e =
     }
 
 -- A lookup that is not refused had a question in order.
-pub lookup-asked : (c : List ℕ) (t a z : ℕ) (answer : List ℕ) → lookup_number c t a z answer ≡ 0 → Asked c t a z
+pub lookup_asked : (c : List ℕ) (t a z : ℕ) (answer : List ℕ) → lookup_number c t a z answer ≡ 0 → Asked c t a z
 unfolding lookup_number
-lookup-asked c t a z answer e = asked c t a z (handed_on _ _ e).0
+lookup_asked c t a z answer e = asked c t a z (handed_on _ _ e).0
 
 -- It answers what is found.
-pub lookup-found :
+pub lookup_found :
     (c : List ℕ) (t a z : ℕ) (answer : List ℕ) → lookup_number c t a z answer ≡ 0 →
     lookup c t a z answer ≡ record { number = 0; count = length (found c t a z); blocks = blocks_read c t a z; answer = sets answer 0 (found c t a z) }
 unfolding lookup
-lookup-found c t a z answer e = rw e
+lookup_found c t a z answer e = rw e
 
 -- A refused lookup writes nothing.
-pub lookup-refused :
+pub lookup_refused :
     (c : List ℕ) (t a z : ℕ) (answer : List ℕ) → eqb (lookup_number c t a z answer) 0 ≡ false →
     lookup c t a z answer ≡ record { number = lookup_number c t a z answer; count = 0; blocks = 0; answer = answer }
 unfolding lookup
-lookup-refused c t a z answer e = rw e
+lookup_refused c t a z answer e = rw e
 
 -- A lookup's number is that of its definition, refused or not.
-pub lookup-number : (c : List ℕ) (t a z : ℕ) (answer : List ℕ) → (lookup c t a z answer).number ≡ lookup_number c t a z answer
-lookup-number c t a z answer = go (eqb (lookup_number c t a z answer) 0) refl
+pub lookup_number_law : (c : List ℕ) (t a z : ℕ) (answer : List ℕ) → (lookup c t a z answer).number ≡ lookup_number c t a z answer
+lookup_number_law c t a z answer = go (eqb (lookup_number c t a z answer) 0) refl
   where
     go : (s : Bool) → eqb (lookup_number c t a z answer) 0 ≡ s → (lookup c t a z answer).number ≡ lookup_number c t a z answer
-    go true e = let n = eqb-true (lookup_number c t a z answer) 0 e in ap (λ l. l.number) (lookup-found c t a z answer n) ∙ sym n
-    go false e = ap (λ l. l.number) (lookup-refused c t a z answer e)
+    go true e = let n = eqb-true (lookup_number c t a z answer) 0 e in ap (λ l. l.number) (lookup_found c t a z answer n) ∙ sym n
+    go false e = ap (λ l. l.number) (lookup_refused c t a z answer e)

@@ -21,7 +21,7 @@ use Rattle.update.specs.Step.{step_number, taken, refused, step}
 use Rattle.update.proofs.Steps.{accepted, step_taken, step_refused}
 use Rattle.history.specs.History.{History, to_write, landed, Event, stepped, cut, looked, restarted, formats, after, tells, told, AllOfWords}
 use Rattle.history.specs.Claims.{Lends, Keeps, ran, finishing, finished, KeptBatch, ResentBatch}
-use Rattle.history.proofs.Answers.{step-finishes}
+use Rattle.history.proofs.Answers.{step_finishes}
 use Rattle.history.proofs.Events.{told_where, keeping_after}
 use Rattle.history.proofs.Keeping.{Keeping, itself, keeping_itself}
 use Rattle.history.proofs.Kept.{Kept, kept_start, kept_on, kept_again, kept_applied, kept_still}
@@ -52,12 +52,12 @@ unfolding tells told finishing Lends
 moved c b (stepped x) h k l P still move = rw (l, told_where) (go (eqb (step c b).write 3) refl)
   where
     go : (t : Bool) → eqb (step c b).write 3 ≡ t → P (cond (eqb (step c b).write 3) (landed b h) h) (step c b).finished
-    go true w = rw (w, step-finishes c b h k (eqb-true (step c b).write 3 w)) move
+    go true w = rw (w, step_finishes c b h k (eqb-true (step c b).write 3 w)) move
     go false w = rw (w, step_unfinished c b w) still
 moved c b (cut x ws d) h k l P still move = rw (l, told_where) (go (eqb (step c b).write 3) refl d)
   where
     go : (t : Bool) → eqb (step c b).write 3 ≡ t → (d : Bool) → P (cond (eqb (step c b).write 3 && d) (landed b h) h) ((step c b).finished && d)
-    go true w true = rw (w, step-finishes c b h k (eqb-true (step c b).write 3 w), and-true (not (goes_on h.size (to_write b h)))) move
+    go true w true = rw (w, step_finishes c b h k (eqb-true (step c b).write 3 w), and-true (not (goes_on h.size (to_write b h)))) move
     go true w false = rw (w, and-false (step c b).finished) still
     go false w d = rw (w, step_unfinished c b w) still
 moved c b (looked t a z answer) h k l P still move = still

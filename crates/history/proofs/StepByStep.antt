@@ -23,7 +23,7 @@ use Rattle.history.specs.History.{to_write, landed}
 use Rattle.history.specs.Claims.{Moved, MovedAll, MovesPast, RemainsNext}
 use Rattle.history.proofs.Keeping.{Keeping, itself, keeping_itself, keeping_boundary}
 use Rattle.history.proofs.Events.{keeping_stepped}
-use Rattle.history.proofs.Answers.{step-finishes}
+use Rattle.history.proofs.Answers.{step_finishes}
 use Rattle.history.proofs.Landed.{landed_moves, landed_finishes}
 
 module _ (c b : List ℕ) (wc : Words c) (wb : Words b) (s : judged c ≡ 0) (w : (step c b).write ≡ 3) where
@@ -34,10 +34,10 @@ module _ (c b : List ℕ) (wc : Words c) (wb : Words b) (s : judged c ≡ 0) (w 
   kept = rw w at (keeping_stepped c b (itself c) start wb)
 
   on : (step c b).finished ≡ false → goes_on (block_size c) (to_write b (itself c)) ≡ true
-  on f = not-false _ (sym (step-finishes c b (itself c) start w) ∙ f)
+  on f = not-false _ (sym (step_finishes c b (itself c) start w) ∙ f)
 
   off : (step c b).finished ≡ true → goes_on (block_size c) (to_write b (itself c)) ≡ false
-  off f = not-true _ (sym (step-finishes c b (itself c) start w) ∙ f)
+  off f = not-true _ (sym (step_finishes c b (itself c) start w) ∙ f)
 
   moved : (step c b).finished ≡ false → Moved (updates b) (boundary c) (boundary (step c b).card) (live c) (live (step c b).card)
   moved f =

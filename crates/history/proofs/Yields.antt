@@ -9,7 +9,7 @@ use lib.Seq.{sets, take_all}
 use Rattle.pair.proofs.FirstOf.{passed, handed_on}
 use Rattle.pair.proofs.Lists.{part_sets_same}
 use Rattle.found.specs.Found.{found, question_number, lookup_number}
-use Rattle.found.proofs.Answers.{lookup-found, lookup-number}
+use Rattle.found.proofs.Answers.{lookup_found, lookup_number_law}
 use Rattle.reader.specs.Reader.{all_yielded, yielded, read}
 use Rattle.history.specs.Claims.{ReaderYieldsLookup, ReadingIsLookup}
 
@@ -23,15 +23,15 @@ enough c t a z answer e =
 pub reader_yields_lookup : ReaderYieldsLookup
 unfolding ReaderYieldsLookup yielded
 reader_yields_lookup c t a z answer n e =
-    let z0 : lookup_number c t a z answer ≡ 0 = sym (lookup-number c t a z answer) ∙ e in
+    let z0 : lookup_number c t a z answer ≡ 0 = sym (lookup_number_law c t a z answer) ∙ e in
     let h = enough c t a z answer z0 in
     let same : take (length (found c t a z)) (sets answer 0 (found c t a z)) ≡ found c t a z = part_sets_same (found c t a z) answer 0 (omega (arith, h.1)) in
-    rw (lookup-found c t a z answer z0, same, h.0)
+    rw (lookup_found c t a z answer z0, same, h.0)
 
 pub reading_is_lookup : ReadingIsLookup
 unfolding ReadingIsLookup read
 reading_is_lookup c t a z answer e =
-    let z0 : lookup_number c t a z answer ≡ 0 = sym (lookup-number c t a z answer) ∙ e in
+    let z0 : lookup_number c t a z answer ≡ 0 = sym (lookup_number_law c t a z answer) ∙ e in
     let h = enough c t a z answer z0 in
     let all : take (length answer) (all_yielded c t a z) ≡ found c t a z = rw h.0 (take_all (length answer) (found c t a z) h.1) in
-    rw (lookup-found c t a z answer z0, all) (refl, refl)
+    rw (lookup_found c t a z answer z0, all) (refl, refl)

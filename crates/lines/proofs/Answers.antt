@@ -27,24 +27,24 @@ four : (s : Bool) (r : List ℕ) → length r ≡ 4 → length (cond s r []) ≢
 four true r e n = e
 four false r e n = absurd (n refl)
 
-record-four : (fs : List (List ℕ)) → length (record_of fs) ≢ 0 → length (record_of fs) ≡ 4
+record_four : (fs : List (List ℕ)) → length (record_of fs) ≢ 0 → length (record_of fs) ≡ 4
 unfolding record_of
-record-four [] n = absurd (n refl)
-record-four (k ∷ []) n = absurd (n refl)
-record-four (k ∷ t ∷ []) n = absurd (n refl)
-record-four (k ∷ t ∷ p ∷ []) n = four (same k (letter_a ∷ []) && is_number t && is_number p) (1 ∷ worth 0 t ∷ worth 0 p ∷ worth 0 p ∷ []) refl n
-record-four (k ∷ t ∷ a ∷ z ∷ []) n = four (same k (letter_r ∷ []) && is_number t && is_number a && is_number z) (2 ∷ worth 0 t ∷ worth 0 a ∷ worth 0 z ∷ []) refl n
-record-four (k ∷ t ∷ a ∷ z ∷ f ∷ fs) n = absurd (n refl)
+record_four [] n = absurd (n refl)
+record_four (k ∷ []) n = absurd (n refl)
+record_four (k ∷ t ∷ []) n = absurd (n refl)
+record_four (k ∷ t ∷ p ∷ []) n = four (same k (letter_a ∷ []) && is_number t && is_number p) (1 ∷ worth 0 t ∷ worth 0 p ∷ worth 0 p ∷ []) refl n
+record_four (k ∷ t ∷ a ∷ z ∷ []) n = four (same k (letter_r ∷ []) && is_number t && is_number a && is_number z) (2 ∷ worth 0 t ∷ worth 0 a ∷ worth 0 z ∷ []) refl n
+record_four (k ∷ t ∷ a ∷ z ∷ f ∷ fs) n = absurd (n refl)
 
 -- a line without a number has a record
 numberless : (i : ℕ) (l : List ℕ) → line_number i l ≡ 0 → length (line_record l) ≡ 4
 unfolding line_number line_record
-numberless i l e = record-four (fields l) (λ z. eqb-false (length (record_of (fields l))) 0 (passed (eqb (length (record_of (fields l))) 0) 11 _ e).0 z)
+numberless i l e = record_four (fields l) (λ z. eqb-false (length (record_of (fields l))) 0 (passed (eqb (length (record_of (fields l))) 0) 11 _ e).0 z)
 
-pub lines-wide : (i : ℕ) (ls : List (List ℕ)) → (fault_from i ls).number ≡ 0 → Wide 4 (map line_record ls)
+pub lines_wide : (i : ℕ) (ls : List (List ℕ)) → (fault_from i ls).number ≡ 0 → Wide 4 (map line_record ls)
 unfolding fault_from
-lines-wide i [] e = tt
-lines-wide i (l ∷ ls) e = go (lines-wide (suc i) ls) (eqb (line_number i l) 0) refl e
+lines_wide i [] e = tt
+lines_wide i (l ∷ ls) e = go (lines_wide (suc i) ls) (eqb (line_number i l) 0) refl e
   where
     go :
         ((fault_from (suc i) ls).number ≡ 0 → Wide 4 (map line_record ls)) → (t : Bool) → eqb (line_number i l) 0 ≡ t →
@@ -55,28 +55,28 @@ lines-wide i (l ∷ ls) e = go (lines-wide (suc i) ls) (eqb (line_number i l) 0)
 
 pub records_wide : (bytes : List ℕ) → (fault bytes).number ≡ 0 → Wide 5 (line_records bytes)
 unfolding fault line_records
-records_wide bytes e = numbered_wide 1 (map line_record (lines bytes)) (lines-wide 0 (lines bytes) e)
+records_wide bytes e = numbered_wide 1 (map line_record (lines bytes)) (lines_wide 0 (lines bytes) e)
 
 -- the records of the lines end to end, sorted, are the batch
-sorted-batch : (bytes : List ℕ) → Wide 5 (line_records bytes) → sorted_words 5 1 (laid (line_records bytes)) ≡ batch_of bytes
+sorted_batch : (bytes : List ℕ) → Wide 5 (line_records bytes) → sorted_words 5 1 (laid (line_records bytes)) ≡ batch_of bytes
 unfolding sorted_words batch_of records
-sorted-batch bytes w =
+sorted_batch bytes w =
     let rs = line_records bytes in
     let long = laid_length 5 rs w in
     let many : length (laid rs) / 5 ≡ length rs = omega (arith, long) in
     rw many (ap (λ l. laid (sorted (key_at 1) l)) (ap (λ l. records_from 5 l 0 (length rs)) (sym (append-nil (laid rs))) ∙ records_laid 5 rs [] w))
 
-pub batch-length : (bytes : List ℕ) → Wide 5 (line_records bytes) → length (batch_of bytes) ≡ 5 * length (line_records bytes)
+pub batch_length : (bytes : List ℕ) → Wide 5 (line_records bytes) → length (batch_of bytes) ≡ 5 * length (line_records bytes)
 unfolding batch_of
-batch-length bytes w =
+batch_length bytes w =
     let rs = line_records bytes in
     laid_length 5 (sorted (key_at 1) rs) (sorted_wide (key_at 1) 5 rs w) ∙ ap (λ n. 5 * n) (sorted_length (key_at 1) rs)
 
 -- without a number there is no line
-quiet-from : (i : ℕ) (ls : List (List ℕ)) → (fault_from i ls).number ≡ 0 → (fault_from i ls).line ≡ 0
+quiet_from : (i : ℕ) (ls : List (List ℕ)) → (fault_from i ls).number ≡ 0 → (fault_from i ls).line ≡ 0
 unfolding fault_from
-quiet-from i [] e = refl
-quiet-from i (l ∷ ls) e = go (quiet-from (suc i) ls) (eqb (line_number i l) 0) refl e
+quiet_from i [] e = refl
+quiet_from i (l ∷ ls) e = go (quiet_from (suc i) ls) (eqb (line_number i l) 0) refl e
   where
     go :
         ((fault_from (suc i) ls).number ≡ 0 → (fault_from (suc i) ls).line ≡ 0) → (t : Bool) → eqb (line_number i l) 0 ≡ t →
@@ -87,14 +87,14 @@ quiet-from i (l ∷ ls) e = go (quiet-from (suc i) ls) (eqb (line_number i l) 0)
 
 quiet_none : (bytes : List ℕ) → (fault bytes).number ≡ 0 → (fault bytes).line ≡ 0
 unfolding fault
-quiet_none bytes e = quiet-from 0 (lines bytes) e
+quiet_none bytes e = quiet_from 0 (lines bytes) e
 
 -- a number of a line comes before that of the lent words
-pub answers-faulty :
+pub answers_faulty :
     (bytes batch : List ℕ) {number line : ℕ} → number ≡ (fault bytes).number → line ≡ (fault bytes).line → number ≢ 0 →
     Answers (scored bytes batch) (record { number = number; words = 0; line = line }) batch
 unfolding scored scores_number first_of
-answers-faulty bytes batch {number} {line} e f n =
+answers_faulty bytes batch {number} {line} e f n =
     let k : eqb (fault bytes).number 0 ≡ false = ne_eqb (fault bytes).number 0 (λ z. n (e ∙ z)) in
     rw (k, k) (record { of_number = e; of_words = refl; of_line = f; of_batch = refl })
 
@@ -114,34 +114,34 @@ module _ (bytes batch : List ℕ) (none : (fault bytes).number ≡ 0) (quiet : (
       rw (none, le-ltb (length batch) (length (batch_of bytes)) h) (record { of_number = refl; of_words = e; of_line = refl; of_batch = f })
 
 -- the records stand in the first words of their memory
-first-words : (rs : List (List ℕ)) (l : List ℕ) (n : ℕ) → length (laid rs) ≡ n → n ≤ length l → take n (sets l 0 (laid rs)) ≡ laid rs
-first-words rs l n e h = ap (take n) (sets-eq (laid rs) l 0 (omega (arith, e, h))) ∙ take_at (laid rs) (drop (0 + length (laid rs)) l) n e
+first_words : (rs : List (List ℕ)) (l : List ℕ) (n : ℕ) → length (laid rs) ≡ n → n ≤ length l → take n (sets l 0 (laid rs)) ≡ laid rs
+first_words rs l n e h = ap (take n) (sets-eq (laid rs) l 0 (omega (arith, e, h))) ∙ take_at (laid rs) (drop (0 + length (laid rs)) l) n e
 
-pub records-many : (bytes : List ℕ) → length (line_records bytes) ≡ length (lines bytes)
+pub records_many : (bytes : List ℕ) → length (line_records bytes) ≡ length (lines bytes)
 unfolding line_records
-records-many bytes = numbered_length 1 (map line_record (lines bytes)) ∙ length-map (lines bytes) line_record
+records_many bytes = numbered_length 1 (map line_record (lines bytes)) ∙ length-map (lines bytes) line_record
 
 -- whole records of five words with their key at word 1 are sorted where the other memory is as long
-whole-sortable : (ws batch : List ℕ) (n : ℕ) → length ws ≡ 5 * n → sortable 5 1 ws batch ≡ leb (length ws) (length batch)
+whole_sortable : (ws batch : List ℕ) (n : ℕ) → length ws ≡ 5 * n → sortable 5 1 ws batch ≡ leb (length ws) (length batch)
 unfolding sortable
-whole-sortable ws batch n e = let z : length ws % 5 ≡ 0 = omega (arith, e) in rw (eq-eqb (length ws % 5) 0 z)
+whole_sortable ws batch n e = let z : length ws % 5 ≡ 0 = omega (arith, e) in rw (eq-eqb (length ws % 5) 0 z)
 
-sort-done :
+sort_done :
     (ws batch : List ℕ) (n : ℕ) → length ws ≡ 5 * n → true ≡ (sort 5 1 ws batch).done →
     (length ws ≤ length batch) × ((sort 5 1 ws batch).work ≡ sets batch 0 (sorted_words 5 1 ws))
-sort-done ws batch n e d = go (sortable 5 1 ws batch) refl
+sort_done ws batch n e d = go (sortable 5 1 ws batch) refl
   where
     go : (t : Bool) → sortable 5 1 ws batch ≡ t → (length ws ≤ length batch) × ((sort 5 1 ws batch).work ≡ sets batch 0 (sorted_words 5 1 ws))
-    go true k = (leb-true (length ws) (length batch) (sym (whole-sortable ws batch n e) ∙ k), sym (done 5 1 ws batch k).1.1)
+    go true k = (leb-true (length ws) (length batch) (sym (whole_sortable ws batch n e) ∙ k), sym (done 5 1 ws batch k).1.1)
     go false k = contradiction (sort 5 1 ws batch).done (sym d) (sym (refused 5 1 ws batch k).0)
 
-sort-refused :
+sort_refused :
     (ws batch : List ℕ) (n : ℕ) → length ws ≡ 5 * n → false ≡ (sort 5 1 ws batch).done → (length batch < length ws) × ((sort 5 1 ws batch).work ≡ batch)
-sort-refused ws batch n e d = go (sortable 5 1 ws batch) refl
+sort_refused ws batch n e d = go (sortable 5 1 ws batch) refl
   where
     go : (t : Bool) → sortable 5 1 ws batch ≡ t → (length batch < length ws) × ((sort 5 1 ws batch).work ≡ batch)
     go true k = contradiction (sort 5 1 ws batch).done (sym (done 5 1 ws batch k).0) (sym d)
-    go false k = (leb-false (length ws) (length batch) (sym (whole-sortable ws batch n e) ∙ k), sym (refused 5 1 ws batch k).1.1)
+    go false k = (leb-false (length ws) (length batch) (sym (whole_sortable ws batch n e) ∙ k), sym (refused 5 1 ws batch k).1.1)
 
 -- what the sort answers of the records gathered
 module _
@@ -157,28 +157,28 @@ module _
     quiet = quiet_none bytes (sym a.of_number ∙ none)
 
     long : length (laid (line_records bytes)) ≡ 5 * g.count
-    long = laid_length 5 (line_records bytes) wide ∙ ap (λ n. 5 * n) (records-many bytes ∙ sym (a.many none))
+    long = laid_length 5 (line_records bytes) wide ∙ ap (λ n. 5 * n) (records_many bytes ∙ sym (a.many none))
 
     words-laid : ws ≡ laid (line_records bytes)
-    words-laid = ap (take (5 * g.count)) (a.stand none) ∙ first-words (line_records bytes) l (5 * g.count) long (omega (arith, room, a.few))
+    words-laid = ap (take (5 * g.count)) (a.stand none) ∙ first_words (line_records bytes) l (5 * g.count) long (omega (arith, room, a.few))
 
     pub words_length : length ws ≡ 5 * g.count
     words_length = ap length words-laid ∙ long
 
     batch-long : length (batch_of bytes) ≡ 5 * g.count
-    batch-long = batch-length bytes wide ∙ ap (λ n. 5 * n) (records-many bytes ∙ sym (a.many none))
+    batch-long = batch_length bytes wide ∙ ap (λ n. 5 * n) (records_many bytes ∙ sym (a.many none))
 
     pub answers_unsorted :
         {after : List ℕ} → false ≡ (sort 5 1 ws batch).done → after ≡ (sort 5 1 ws batch).work →
         Answers (scored bytes batch) (record { number = 10; words = 0; line = 0 }) after
     answers_unsorted d e =
-        let r = sort-refused ws batch g.count words_length d in
+        let r = sort_refused ws batch g.count words_length d in
         rw (e ∙ r.1) (answers_short bytes batch (sym a.of_number ∙ none) quiet (omega (arith, r.0, words_length, batch-long)))
 
     pub answers_sorted :
         {after : List ℕ} → true ≡ (sort 5 1 ws batch).done → after ≡ (sort 5 1 ws batch).work →
         Answers (scored bytes batch) (record { number = 0; words = 5 * g.count; line = 0 }) after
     answers_sorted d e =
-        let r = sort-done ws batch g.count words_length d in
+        let r = sort_done ws batch g.count words_length d in
         answers_read bytes batch (sym a.of_number ∙ none) quiet (omega (arith, r.0, words_length, batch-long)) (sym batch-long)
-        (e ∙ r.1 ∙ ap (sets batch 0) (ap (sorted_words 5 1) words-laid ∙ sorted-batch bytes wide))
+        (e ∙ r.1 ∙ ap (sets batch 0) (ap (sorted_words 5 1) words-laid ∙ sorted_batch bytes wide))

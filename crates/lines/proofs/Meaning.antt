@@ -24,7 +24,7 @@ use Rattle.sort.proofs.Claims.{sort_rearranges, sort_orders}
 use Rattle.sort.proofs.Records.{Wide, sorted_wide}
 use Rattle.lines.specs.Lines.{lines, line_record, fault, numbered, line_records, batch_of}
 use Rattle.lines.specs.Claims.{RoomEnough, BatchSorted, counted, LinesCounted, LinesNumbered, OrderMeansNothing, LastLineDecides}
-use Rattle.lines.proofs.Answers.{lines-wide, records_wide}
+use Rattle.lines.proofs.Answers.{lines_wide, records_wide}
 use Rattle.lines.proofs.Numbered.{numbered_wide, counted_numbers, counted_last}
 use Rattle.lines.proofs.Room.{room_number}
 
@@ -131,7 +131,7 @@ pub lines_counted : LinesCounted
 unfolding LinesCounted line_records fault
 lines_counted bytes e =
     let rs = map line_record (lines bytes) in
-    let w = lines-wide 0 (lines bytes) e in
+    let w = lines_wide 0 (lines bytes) e in
     ap arrivals (updates_laid (numbered 1 rs) (numbered_wide 1 rs w)) ∙ arrivals_numbered 1 rs w ∙ ap (counted 1) (length-map (lines bytes) line_record)
 
 pub lines_numbered : LinesNumbered

@@ -12,7 +12,7 @@ use Rattle.pair.specs.Tests.{first_of}
 use Rattle.pair.proofs.FirstOf.{passed}
 use Rattle.batch.specs.Batch.{record_words, records_most}
 use Rattle.lines.specs.Lines.{lines, line_record, line_number, fault_from, fault, batch_of, scores_number, scored}
-use Rattle.lines.proofs.Answers.{records_wide, records-many, batch-length}
+use Rattle.lines.proofs.Answers.{records_wide, records_many, batch_length}
 
 pub numberless_few : (i : ℕ) (l : List ℕ) → line_number i l ≡ 0 → i < records_most
 unfolding line_number
@@ -35,7 +35,7 @@ pub batch_few : (bytes : List ℕ) → (fault bytes).number ≡ 0 → length (ba
 unfolding fault
 batch_few bytes e =
     let few = lines_few 0 (lines bytes) (omega arith) e in
-    omega (arith, few, batch-length bytes (records_wide bytes e), records-many bytes)
+    omega (arith, few, batch_length bytes (records_wide bytes e), records_many bytes)
 
 -- so with room for the most only a line can earn a number
 pub room_number : (bytes batch : List ℕ) → record_words * records_most ≤ length batch → (scored bytes batch).number ≡ (fault bytes).number

@@ -18,7 +18,7 @@ use Rattle.lookup.specs.Answer.{number_of, count_of, blocks_read_of, answer_of}
 use Rattle.found.specs.Views.{run, run_start, Viewed}
 use Rattle.found.specs.Found.{found, question_number, lookup_number, Lookup, lookup}
 use Rattle.found.specs.code.Walk.{ahead, blocks_of, WalkStarted, Next}
-use Rattle.found.proofs.Answers.{lookup-found, lookup-refused}
+use Rattle.found.proofs.Answers.{lookup_found, lookup_refused}
 use Rattle.found.proofs.Starting.{started_found, started_blocks}
 
 -- the lookup's number
@@ -43,7 +43,7 @@ module _ (c : List ℕ) (t a z : ℕ) (ans : List ℕ) where
   pub answered_refused : {n : ℕ} → n ≡ question_number c t a z → (n ≡ 0 → ⊥) → AnsweredAs c t a z ans (Refused n) ans
   answered_refused {n} e h =
       let k : lookup_number c t a z ans ≡ n = number_question c t a z ans n e h in
-      let l = lookup-refused c t a z ans (rw k (ne_eqb n 0 h)) in
+      let l = lookup_refused c t a z ans (rw k (ne_eqb n 0 h)) in
       (rw (l, k, ne_eqb n 0 h), rw l)
 
   -- for its answer words
@@ -53,7 +53,7 @@ module _ (c : List ℕ) (t a z : ℕ) (ans : List ℕ) where
   answered_short {r} s h {m} f l =
       let short : length ans < length (found c t a z) = rw (← started_found s h) (omega arith) in
       let k : lookup_number c t a z ans ≡ 10 = number_short c t a z ans (sym s.number ∙ h) short in
-      let l = lookup-refused c t a z ans (rw k refl) in
+      let l = lookup_refused c t a z ans (rw k refl) in
       (rw (l, k), rw l)
 
   -- and one that is not refused
@@ -63,7 +63,7 @@ module _ (c : List ℕ) (t a z : ℕ) (ans : List ℕ) where
   answered_found {r} s h {m} f l {after} e =
       let room : length (found c t a z) ≤ length ans = rw (← started_found s h) (omega arith) in
       let k : lookup_number c t a z ans ≡ 0 = number_none c t a z ans (sym s.number ∙ h) room in
-      let l = lookup-found c t a z ans k in
+      let l = lookup_found c t a z ans k in
       (rw (l, f, started_found s h, started_blocks s h), rw (l, e, started_found s h))
 
 -- the numbers of a lookup's answer are those of the lookup
@@ -77,10 +77,10 @@ answer_numbers c t a z ans = go (eqb (lookup_number c t a z ans) 0) refl
   where
     go : (s : Bool) → eqb (lookup_number c t a z ans) 0 ≡ s → AnswerNumbers (answer_of (lookup c t a z ans)) (lookup c t a z ans)
     go true e =
-        let l = lookup-found c t a z ans (eqb-true (lookup_number c t a z ans) 0 e) in
+        let l = lookup_found c t a z ans (eqb-true (lookup_number c t a z ans) 0 e) in
         record { number = rw l; count = rw l; blocks = rw l }
     go false e =
-        let l = lookup-refused c t a z ans e in
+        let l = lookup_refused c t a z ans e in
         record { number = rw (l, e); count = rw (l, e); blocks = rw (l, e) }
 
 -- the run view's part of the card is the first run of the walk, refused or not

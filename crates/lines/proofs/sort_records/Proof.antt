@@ -1,7 +1,7 @@
 -- `lines::sort_records` meets its contract: the sort's reply tells whether the lent words are enough, and leaves the batch in them.
 use native.Mathlib.Omega.{arith}
 use mathlib.Core.Path.{sym, ◌∙◌}
-use Rattle.lines.proofs.Answers.{answers-faulty, words_length, answers_unsorted, answers_sorted}
+use Rattle.lines.proofs.Answers.{answers_faulty, words_length, answers_unsorted, answers_sorted}
 use borrow.Author.Rules.{rules}
 use Rattle.lines.proofs.sort_records.Statement.{statement}
 use Rattle.lines.proofs.sort_records.Tie as tie
@@ -13,7 +13,7 @@ same_length : tie.Need-same-length
 same_length c = search rules
 
 returns : tie.Need-returns
-returns c = answers-faulty _ _ c.before.before.before.gather.ensures.of_number c.before.before.before.gather.ensures.of_line c.if1.true
+returns c = answers_faulty _ _ c.before.before.before.gather.ensures.of_number c.before.before.before.gather.ensures.of_line c.if1.true
 
 mul_words : tie.Need-overflow-mul-words
 mul_words c = record { fits = omega (arith, c.before.before.before.gather.ensures.few) }

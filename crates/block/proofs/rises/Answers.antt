@@ -1,0 +1,10 @@
+-- `block::rises` meets its contract. The invariant, Rises: all positions rise exactly where those read do and the rest rises from the last of them.
+use Prim.Native.Nat.{◌-◌}
+use Rattle.block.proofs.Walk.{rises_turn, rises_end}
+use Rattle.block.proofs.rises.Goals as goal
+
+pub loop-i-preserved : goal.loop-i-preserved
+loop-i-preserved c = rises_turn c.loop-i.invariant c.loop-i-test.true
+
+pub returns : goal.returns
+returns c = rises_end c.loop-i.invariant c.loop-i-test.false
