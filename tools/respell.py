@@ -91,10 +91,10 @@ def of_crate(new, path):
 
 
 def turn_words(text, new):
-    """Whole words; behind a dot a name with a dash is a label that Rattle made, and stays."""
+    """Whole words; behind a dot a name that is no field's in camel case is a label or a module, and stays."""
     def turn(m):
         word = m[0]
-        if '-' in word and text[: m.start()].endswith('.'):
+        if text[: m.start()].endswith('.') and not re.search(r'[a-z][A-Z]', word):
             return word
         return new.get(word, word)
 
@@ -102,8 +102,8 @@ def turn_words(text, new):
 
 
 def turn_rust(text, new):
-    """Clauses, ghost items and comments; the code itself has no such name."""
-    return re.sub(WORD, lambda m: new.get(m[0], m[0]), text)
+    """Clauses, ghost items and comments: names of code have no dash and no capital inside."""
+    return re.sub(WORD, lambda m: new.get(m[0], m[0]) if re.search(r'-|[a-z][A-Z]', m[0]) else m[0], text)
 
 
 def turn_spans(text, new):

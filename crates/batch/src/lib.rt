@@ -41,7 +41,7 @@ const ILL_NUMBERED: u32 = 14;
 const ORDER_FALLS: u32 = 7;
 
 // A record of a batch.
-#[derive(Drop)]
+#[derive(Clone, Copy)]
 pub(crate) struct Record {
     pub(crate) kind: u32,
     pub(crate) term: u32,
@@ -155,7 +155,7 @@ pub fn batch_number(batch: &[u32]) -> u32
 }
 
 // An addition of the batch: the number of its record, and its pair's rank; the rank is 0 where there is none.
-#[derive(Drop)]
+#[derive(Clone, Copy)]
 pub struct Addition {
     pub at: usize,
     pub rank: u64,
@@ -180,7 +180,7 @@ pub fn next_addition(batch: &[u32], from: usize, above: u64) -> Addition
 // Records passed by questions with rising ranks: the next record, how many there are up to the last removal of a term before it, the greatest
 // rank that these reach to, the greatest arrival number of the rounds before it, the rank of the last addition before it, and the greatest
 // arrival number of the additions of that rank.
-#[derive(Drop)]
+#[derive(Clone, Copy)]
 pub struct Passed {
     pub next: usize,
     pub rounds: u32,
@@ -191,7 +191,7 @@ pub struct Passed {
 }
 
 // The latest of some removals of a term: the rank that it reaches to, and its arrival number, 0 where there is none.
-#[derive(Drop)]
+#[derive(Clone, Copy)]
 pub struct Latest {
     pub reach: u64,
     pub arrival: u32,
@@ -199,7 +199,7 @@ pub struct Latest {
 
 // A place in the batch for questions with rising ranks: the records passed, the latest removal of those that may reach to a pair, and how many
 // rounds start at or below the last position.
-#[derive(Drop)]
+#[derive(Clone, Copy)]
 pub struct Cursor {
     pub passed: Passed,
     pub latest: Latest,
@@ -228,7 +228,7 @@ pub const START: Cursor = Cursor {
 };
 
 // Whether the batch withdraws a pair, and the cursor behind it.
-#[derive(Drop)]
+#[derive(Clone, Copy)]
 pub struct Decision {
     pub cursor: Cursor,
     pub withdrawn: bool,
@@ -385,7 +385,7 @@ fn renewed(batch: &[u32], records: usize, latest: Latest, rank: u64, arrived: u3
 }
 
 // Whether a removal of its term takes a pair away, and the latest removal in hand behind it.
-#[derive(Drop)]
+#[derive(Clone, Copy)]
 struct Removal {
     latest: Latest,
     removed: bool,

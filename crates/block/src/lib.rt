@@ -10,7 +10,7 @@ ghost use Rattle.block.specs.code.Scan.{entry_stands, scanned};
 use pair::Pair;
 
 // What a scan tells of a block: whether it is a live block, and the ranks of its first and its last pair, 0 where it is not.
-#[derive(Drop)]
+#[derive(Clone, Copy)]
 pub struct BlockScan {
     pub formed: bool,
     pub first: u64,

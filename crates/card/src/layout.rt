@@ -26,7 +26,7 @@ pub(crate) const BOUNDARY_TERM_AT: usize = 6;
 pub(crate) const BOUNDARY_POSITION_AT: usize = 7;
 
 // What the configuration words say. A field of 16 bits is its word's remainder by 65,536: of a sound card, the word.
-#[derive(Drop)]
+#[derive(Clone, Copy)]
 pub struct Configuration {
     pub format: u32,
     pub size: u16,

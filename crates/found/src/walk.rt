@@ -9,7 +9,7 @@ use card::layout::Configuration;
 use wanted::Part;
 
 // Blocks of one segment: so many places from one on, around the circle. Wanted of them are positions above after.
-#[derive(Drop)]
+#[derive(Clone, Copy)]
 pub struct Stretch {
     pub place: u16,
     pub blocks: u16,
@@ -17,7 +17,7 @@ pub struct Stretch {
 }
 
 // The blocks still to be read, of the new segment and then of the old. Wanted of them are positions of the term, up to one.
-#[derive(Drop)]
+#[derive(Clone, Copy)]
 pub struct Walk {
     pub term: u32,
     pub to: u32,
@@ -26,21 +26,21 @@ pub struct Walk {
 }
 
 // The number of a question, 0 where it is not refused, and its walk.
-#[derive(Drop)]
+#[derive(Clone, Copy)]
 pub struct WalkStart {
     pub number: u32,
     pub walk: Walk,
 }
 
 // A walk at its start, and how many wanted positions are ahead of it.
-#[derive(Drop)]
+#[derive(Clone, Copy)]
 pub struct WalkCount {
     pub start: WalkStart,
     pub count: usize,
 }
 
 // The wanted positions of the first block of a stretch that has any, as a part of the card, and the blocks behind it.
-#[derive(Drop)]
+#[derive(Clone, Copy)]
 struct StretchRun {
     start: usize,
     len: usize,
@@ -48,7 +48,7 @@ struct StretchRun {
 }
 
 // The same of a walk.
-#[derive(Drop)]
+#[derive(Clone, Copy)]
 pub struct WalkRun {
     pub start: usize,
     pub len: usize,

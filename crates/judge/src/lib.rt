@@ -16,7 +16,7 @@ use card::layout::Configuration;
 const BAD_BLOCKS: u32 = 4;
 
 // What the walk over the live blocks of a segment tells: whether they are sound and rise, and the rank of the last pair, 0 where they do not.
-#[derive(Drop)]
+#[derive(Clone, Copy)]
 pub struct SegmentScan {
     pub sound: bool,
     pub last: u64,

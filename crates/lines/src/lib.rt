@@ -34,7 +34,7 @@ const LINE_FEED: u8 = b'\n';
 pub const SETTLING_BYTES: usize = 143_395;
 
 // The number of a file and the line that earned it, or else the count of its records.
-#[derive(Drop)]
+#[derive(Clone, Copy)]
 struct Gathered {
     number: u32,
     line: usize,
@@ -94,7 +94,7 @@ fn gather(bytes: &[u8], records: &mut [u32]) -> Gathered
 }
 
 // What a file gives: its number, the words of its batch, and the line that earned a number 12 or 13.
-#[derive(Drop)]
+#[derive(Clone, Copy)]
 pub struct Scores {
     pub number: u32,
     pub words: usize,

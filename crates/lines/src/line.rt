@@ -12,7 +12,7 @@ const ADDS: u32 = 1;
 const REMOVES: u32 = 2;
 
 // The words of a record; its kind is 0 where a line has another form.
-#[derive(Drop)]
+#[derive(Clone, Copy)]
 pub(crate) struct Record {
     pub(crate) kind: u32,
     pub(crate) term: u32,

@@ -19,7 +19,7 @@ mod taking; // the wanted positions of a walk moved to answer words
 const TOO_FEW_WORDS: u32 = 10;
 
 // A lookup's answer: the number of a refusal, or how many positions were found and how many blocks were read.
-#[derive(Drop)]
+#[derive(Clone, Copy)]
 pub enum LookupAnswer {
     Refused(u32),
     Found { count: u32, blocks: u32 },
@@ -61,7 +61,7 @@ pub fn lookup_all(card: &[u32], term: u32, answer: &mut [u32]) -> LookupAnswer
 }
 
 // The number of a run view that is refused, and where in the card the run starts and how long it is.
-#[derive(Drop)]
+#[derive(Clone, Copy)]
 pub struct RunPart {
     pub number: u32,
     pub start: usize,

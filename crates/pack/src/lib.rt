@@ -18,7 +18,7 @@ const POSITION_COST: usize = 1;
 pub const WORDS_MOST: usize = 1024;
 
 // How many words are used, the rank of the last pair, 0 for none, and where its term's count stands.
-#[derive(Drop)]
+#[derive(Clone, Copy)]
 pub struct Packing {
     pub used: usize,
     pub last: u64,
@@ -32,7 +32,7 @@ pub const EMPTY: Packing = Packing {
 };
 
 // Whether a pair had room, and the packing with it.
-#[derive(Drop)]
+#[derive(Clone, Copy)]
 pub struct PutAnswer {
     pub packing: Packing,
     pub done: bool,
@@ -51,7 +51,7 @@ pub fn cost(last: u64, rank: u64) -> usize
 }
 
 // Whether a pair has room in so many words.
-fn has_room_law(words: usize, packing: Packing, rank: u64) -> bool
+fn has_room(words: usize, packing: Packing, rank: u64) -> bool
     ensures { result ≡ has_room words packing rank }
 {
     let used = packing.used;

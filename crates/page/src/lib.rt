@@ -25,7 +25,7 @@ const LINE_BYTES: usize = 66;
 const LINE_FEED: usize = LINE_BYTES - 1;
 
 // A page's answer: the number of a refusal, or how many lines were written.
-#[derive(Drop)]
+#[derive(Clone, Copy)]
 pub enum PageAnswer {
     Refused(u32),
     Lines(u32),

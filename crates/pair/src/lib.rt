@@ -9,7 +9,7 @@ ghost use Rattle.pair.specs.Rank.{rank, term, position};
 // Ranks of one term lie in one stretch of this many numbers.
 const TERM_STRETCH: u64 = 4_294_967_296;
 
-#[derive(Drop)]
+#[derive(Clone, Copy)]
 pub struct Pair {
     pub term: u32,
     pub position: u32,

@@ -7,7 +7,7 @@ use crate::Yield;
 use found::walk::{Walk, next_run, start_counted, start_walk};
 
 // A place in a card: the postings that are left of a run, and the walk behind it. Only this crate makes one.
-#[derive(Drop)]
+#[derive(Clone, Copy)]
 pub struct Cursor {
     pub(crate) at: usize,
     pub(crate) left: usize,
@@ -15,14 +15,14 @@ pub struct Cursor {
 }
 
 // The number of a question, 0 where it is not refused, and the cursor before its postings.
-#[derive(Drop)]
+#[derive(Clone, Copy)]
 pub(crate) struct Opening {
     pub(crate) number: u32,
     pub(crate) cursor: Cursor,
 }
 
 // The same, and how many postings there are.
-#[derive(Drop)]
+#[derive(Clone, Copy)]
 pub struct Counted {
     pub number: u32,
     pub count: usize,
@@ -30,7 +30,7 @@ pub struct Counted {
 }
 
 // What is yielded at a cursor, and the cursor behind it.
-#[derive(Drop)]
+#[derive(Clone, Copy)]
 pub struct Step {
     pub yielded: Yield,
     pub cursor: Cursor,

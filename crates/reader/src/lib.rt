@@ -12,7 +12,7 @@ use crate::cursor::{Cursor, open_at, step_at, yield_at};
 pub mod cursor; // a place in the card that moves on by one posting at a time
 
 // What a reader yields.
-#[derive(Drop)]
+#[derive(Clone, Copy)]
 pub enum Yield {
     Posting(u32),
     End,
@@ -57,7 +57,7 @@ pub fn posting(card: &[u32], term: u32, from: u32, to: u32, n: usize) -> Yield
 }
 
 // The number of a refusal, and how many postings were read.
-#[derive(Drop)]
+#[derive(Clone, Copy)]
 pub struct Reading {
     pub number: u32,
     pub count: usize,

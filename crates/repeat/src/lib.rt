@@ -36,7 +36,7 @@ fn slot_of(x: u32, bits: u32) -> usize
 }
 
 // Whether a round found a number that stands twice, or else how many it left over.
-#[derive(Drop)]
+#[derive(Clone, Copy)]
 struct Round {
     found: bool,
     left: usize,

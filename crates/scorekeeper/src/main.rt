@@ -9,7 +9,7 @@ use lines::SETTLING_BYTES;
 use scores::LINE_BYTES;
 
 // How many bytes came, and whether every read was made.
-#[derive(Drop)]
+#[derive(Clone, Copy)]
 struct Input {
     count: usize,
     is_read: bool,

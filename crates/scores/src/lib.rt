@@ -21,7 +21,7 @@ const CARD_WORDS: usize = 68;
 pub const LINE_BYTES: usize = 13;
 
 // How a file ends: the steps of the pass that finished, or a number.
-#[derive(Drop)]
+#[derive(Clone, Copy)]
 pub enum Outcome {
     Finished(u32),
     Refused(u32),

@@ -9,7 +9,7 @@ use card::layout;
 use card::layout::{CONFIGURATION_WORDS, Configuration};
 
 // The number of a card that is refused; where in the card a write stands and how many words it has.
-#[derive(Drop)]
+#[derive(Clone, Copy)]
 pub struct WriteSpan {
     pub number: u32,
     pub start: usize,

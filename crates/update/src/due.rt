@@ -9,7 +9,7 @@ ghost use Rattle.update.specs.code.Due.{DueOf};
 use crate::merge;
 
 // The due block: how many of its words are used, the rank of its last pair, 0 for none, and whether pairs stand beyond it.
-#[derive(Drop)]
+#[derive(Clone, Copy)]
 pub(crate) struct Due {
     pub(crate) used: usize,
     pub(crate) last: u64,

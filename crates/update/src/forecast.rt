@@ -28,7 +28,7 @@ const STEPS_PER_BLOCK: u32 = 3;
 
 // What a forecast answers: the number of a refusal, or how many blocks what remains fills and the step limit, with whether the pass finishes or after
 // how many configuration writes it stops with number 8.
-#[derive(Drop)]
+#[derive(Clone, Copy)]
 pub enum ForecastAnswer {
     Refused(u32),
     Finishes {
@@ -128,7 +128,7 @@ pub fn writes_of(answer: ForecastAnswer) -> u32
 
 // Blocks that are full: how many, how many of their configuration writes leave a place free before the first that does not, and the old places
 // that these spend.
-#[derive(Drop)]
+#[derive(Clone, Copy)]
 pub(crate) struct Tally {
     pub(crate) blocks: u32,
     pub(crate) free: u32,
@@ -136,7 +136,7 @@ pub(crate) struct Tally {
 }
 
 // The block in hand: how many of its words are used, the rank of its last pair, 0 for none, and the blocks before it.
-#[derive(Drop)]
+#[derive(Clone, Copy)]
 pub(crate) struct Filling {
     pub(crate) used: usize,
     pub(crate) last: u64,
@@ -253,7 +253,7 @@ fn add(card: &[u32], size: usize, filling: Filling, rank: u64, at: usize, more: 
 }
 
 // The block in hand, with the place in the merge at its last pair.
-#[derive(Drop)]
+#[derive(Clone, Copy)]
 pub(crate) struct Packed {
     pub(crate) filling: Filling,
     pub(crate) place: Merge,
@@ -284,7 +284,7 @@ fn add_entries(card: &[u32], batch: &[u32], reaches: &[u32], size: usize, start:
     }
     let mut filling = start.filling;
     let mut last = rank;
-    while (old.count == 0) & reads_on_law(&card[..old.end], old.at) {
+    while (old.count == 0) & reads_on(&card[..old.end], old.at) {
         let first = old::entry(card, old.at, old.end, old.place, old.places);
         let whole = old::along(card, first, first.count);
         let highest = whole.rank;

@@ -33,7 +33,7 @@ const CROWDED: u32 = 8;
 
 // What a step answers: the number of a refusal, or the write it made; of a configuration write also how many old places it freed
 // and whether the pass finished.
-#[derive(Drop)]
+#[derive(Clone, Copy)]
 pub enum StepAnswer {
     Refused(u32),
     Block,
@@ -168,7 +168,7 @@ fn following(k: Configuration, due: Due, freed: u16, grown: u16) -> Configuratio
 }
 
 // A write: where in the card it stands and how many words it has, and the answer that names it.
-#[derive(Drop)]
+#[derive(Clone, Copy)]
 struct WritePlan {
     start: usize,
     count: usize,

@@ -14,7 +14,7 @@ use pair::Pair;
 
 // A place in the merge: the rank of the pair in hand, before the first pair the boundary's, 0 at the end; the old pairs, the record from which
 // additions are sought, and the cursor of decisions.
-#[derive(Drop)]
+#[derive(Clone, Copy)]
 pub(crate) struct Merge {
     pub(crate) rank: u64,
     pub(crate) old: OldCursor,

@@ -10,7 +10,7 @@ use wanted::reads_on;
 
 // A place in the old segment: the next place and how many are left; the next word of the block in hand and its end; the term in
 // hand and how many of its positions are still to come; the rank of the pair in hand, 0 for none.
-#[derive(Drop)]
+#[derive(Clone, Copy)]
 pub(crate) struct OldCursor {
     pub(crate) place: u16,
     pub(crate) places: u16,
@@ -69,7 +69,7 @@ fn next(card: &[u32], old: OldCursor) -> OldCursor
             rank: pair.rank(),
         };
     }
-    if reads_on_law(&card[..end], at) {
+    if reads_on(&card[..end], at) {
         return entry(card, at, end, place, places);
     }
     if places == 0 {
@@ -150,7 +150,7 @@ pub(crate) fn along(card: &[u32], old: OldCursor, n: usize) -> OldCursor
 }
 
 // Leading old places with no pair above a rank: how many, and the last pair of the place behind them, 0 where it is not known.
-#[derive(Drop)]
+#[derive(Clone, Copy)]
 pub(crate) struct Spent {
     pub(crate) count: u16,
     pub(crate) last: u64,

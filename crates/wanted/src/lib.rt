@@ -7,7 +7,7 @@ ghost use Rattle.block.specs.code.Scan.{reads_on};
 ghost use Rattle.wanted.specs.code.Wanted.{UpTo, EntryPart, BlockPart};
 
 // A part of some words: where it starts and how many words it has.
-#[derive(Drop)]
+#[derive(Clone, Copy)]
 pub struct Part {
     pub start: usize,
     pub len: usize,
@@ -59,7 +59,7 @@ fn entry_part(positions: &[u32], after: u32, to: u32) -> Part
 }
 
 // Whether another entry is to be read at i: three words remain, and the next is not 0.
-pub fn reads_on_law(words: &[u32], i: usize) -> bool
+pub fn reads_on(words: &[u32], i: usize) -> bool
     ensures { result ≡ reads_on (drop i words.now) }
 {
     let len = words.len();
@@ -77,7 +77,7 @@ pub fn block_part(words: &[u32], term: u32, after: u32, to: u32) -> Part
     ensures { BlockPart words.now term after to result }
 {
     let mut i: usize = 0;
-    while reads_on_law(words, i) {
+    while reads_on(words, i) {
         let next = words[i];
         let count = words[i + 1] as usize;
         let start = i + 2;

@@ -65,7 +65,7 @@ none t = eqb-true _ _ (and_left _ _ t.if3.true)
 reads : (t : tie.Then3 invariant-loop decreases-loop) → let l = t.before.before.before.before in reads_on (rest (S l.before.before.before.before.before).args.card.now l.loop.old.at l.loop.old.end) ≡ true
 reads t =
     let l = t.before.before.before.before in
-    sym (t.before.reads_on_law.ensures ∙ ap reads_on (drop_take l.loop.old.at l.loop.old.end (S l.before.before.before.before.before).args.card.now))
+    sym (t.before.reads_on.ensures ∙ ap reads_on (drop_take l.loop.old.at l.loop.old.end (S l.before.before.before.before.before).args.card.now))
     ∙ and_right (eqb l.loop.old.count 0) _ t.if3.true
 
 -- nothing more is packed

@@ -16,8 +16,8 @@ use Rattle.update.proofs.old.next.Tie as tie
 none : (c : tie.Else1) → c.before.before.args.old.count ≡ 0
 none c = omega (arith, c.if1.false)
 
-reads : (c : tie.After-reads-on) → let a = c.before.before.before.before.args in c.reads_on_law.result ≡ reads_on (rest a.card.now a.old.at a.old.end)
-reads c = let a = c.before.before.before.before.args in c.reads_on_law.ensures ∙ ap reads_on (drop_take a.old.at a.old.end a.card.now)
+reads : (c : tie.After-reads-on) → let a = c.before.before.before.before.args in c.reads_on.result ≡ reads_on (rest a.card.now a.old.at a.old.end)
+reads c = let a = c.before.before.before.before.args in c.reads_on.ensures ∙ ap reads_on (drop_take a.old.at a.old.end a.card.now)
 
 -- the configuration's fields are the words
 size : (c : tie.After-of) → c.of.result.size ≡ block_size c.before.before.before.before.before.before.before.args.card.now
