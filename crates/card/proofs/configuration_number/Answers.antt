@@ -3,7 +3,7 @@ use Prim.Native.Nat.{ℕ, ◌+◌, ◌-◌}
 use mathlib.Core.Path.{◌≡◌, sym, ◌∙◌}
 use mathlib.Core.Bool.{Bool, true, false, cond}
 use mathlib.Core.List.{List}
-use borrow.Author.Tests.{lt-ltb, le-ltb, eq-eqb, ne_eqb, not-true, not-false}
+use borrow.Author.Tests.{lt-ltb, le-ltb, eq-eqb, ne_eqb}
 use lib.Dec.{ltb, eqb}
 use lib.ListN.{length}
 use Rattle.pair.specs.Tests.{first_of}
@@ -88,8 +88,8 @@ returns-then-not-boundary_agrees c =
     let q4 : eqb (length c.args.card.now) (card_length (entry_width c.args.card.now) (block_size c.args.card.now) (place_count c.args.card.now)) ≡ true =
         eq-eqb _ _ (c.if-card-card_length.false ∙ c.card_length.ensures) in
     let passed_six : cond c.boundary_agrees.result 0 3 ≡ first_of (configuration_conditions c.args.card.now) =
-        six c.args.card.now (q1) (q2) (q3) (q4) (lt-ltb _ _ c.if-n-card.false) (le-ltb _ _ c.if-most-live.false) c.boundary_agrees.result c.boundary_agrees.ensures in
-    rw (not-true c.boundary_agrees.result c.if-not-boundary_agrees.true) at (passed_six)
+        six c.args.card.now q1 q2 q3 q4 (lt-ltb _ _ c.if-n-card.false) (le-ltb _ _ c.if-most-live.false) c.boundary_agrees.result c.boundary_agrees.ensures in
+    rw c.if-not-boundary_agrees.true at passed_six
 
 pub returns : goal.returns
 unfolding boundary_agrees
@@ -103,5 +103,5 @@ returns c =
     let q4 : eqb (length c.args.card.now) (card_length (entry_width c.args.card.now) (block_size c.args.card.now) (place_count c.args.card.now)) ≡ true =
         eq-eqb _ _ (c.if-card-card_length.false ∙ c.card_length.ensures) in
     let passed_six : cond c.boundary_agrees.result 0 3 ≡ first_of (configuration_conditions c.args.card.now) =
-        six c.args.card.now (q1) (q2) (q3) (q4) (lt-ltb _ _ c.if-n-card.false) (le-ltb _ _ c.if-most-live.false) c.boundary_agrees.result c.boundary_agrees.ensures in
-    rw (not-false c.boundary_agrees.result c.if-not-boundary_agrees.false) at (passed_six)
+        six c.args.card.now q1 q2 q3 q4 (lt-ltb _ _ c.if-n-card.false) (le-ltb _ _ c.if-most-live.false) c.boundary_agrees.result c.boundary_agrees.ensures in
+    rw c.if-not-boundary_agrees.false at passed_six

@@ -1,0 +1,18 @@
+-- `batch::rounds::halve` meets its contract. The invariant of its loop, Halving: what is sought from low to high is what is asked for.
+use Prim.Native.Nat.{◌-◌}
+use mathlib.Core.Path.{sym}
+use borrow.Author.Tests.{le-leb, lt-leb}
+use Rattle.batch.proofs.Annulling.{halving_start, halving_up, halving_down, halving_end}
+use Rattle.batch.proofs.rounds.halve.Goals as goal
+
+pub loop-low-init : goal.loop-low-init
+loop-low-init c = halving_start _ _ _
+
+pub loop-low-preserved-then-start_at-position : goal.loop-low-preserved-then-start_at-position
+loop-low-preserved-then-start_at-position c = halving_up c.loop-low.invariant c.loop-low-test.true (le-leb _ _ (rw c.start_at.ensures at c.if-start_at-position.true))
+
+pub loop-low-preserved : goal.loop-low-preserved
+loop-low-preserved c = halving_down c.loop-low.invariant c.loop-low-test.true (lt-leb _ _ (rw c.start_at.ensures at c.if-start_at-position.false))
+
+pub returns : goal.returns
+returns c = sym (halving_end c.loop-low.invariant c.loop-low-test.false)
