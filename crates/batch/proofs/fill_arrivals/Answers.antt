@@ -9,8 +9,6 @@ loop-n-preserved c =
     (i.0, rw c.record_at-u.ensures (numbering_turn _ i.1 c.loop-n-test.true))
 
 pub returns : goal.returns
-returns c = numbering_end _ c.loop-n.invariant.1 c.loop-n-test.false
-
-pub returns : goal.returns
-returns c = numbering_end _ c.loop-n.invariant.1 c.loop-n-test.false
-
+returns c =
+    let e = numbering_end _ c.loop-n.invariant.1 c.loop-n-test.false in
+    record { value = e.0; numbers_after = e.1 }

@@ -12,4 +12,4 @@ pub returns : goal.returns
 unfolding ill_numbered
 returns c =
     let f = c.fill_arrivals.ensures in
-    rw (← f.0, c.if-fill_arrivals.false, c.repeats.ensures, f.1, numbers_whole c.args.batch.now (omega arith))
+    rw (← f.value, c.if-fill_arrivals.false, c.repeats.ensures, f.numbers_after, numbers_whole c.args.batch.now (omega arith))

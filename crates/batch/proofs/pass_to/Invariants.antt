@@ -9,8 +9,8 @@ abbrev pub invariant-loop-next : goal.invariant-loop-next
 invariant-loop-next l = passing l.batch l.cursor l.rank
     ≡ passing l.batch
     (record {
-      passed = record { l.next = l.next; l.rounds = l.rounds; l.removals = l.removals; l.reach = l.reach; l.added = l.added; l.arrived = l.arrived };
-      l.latest = l.latest;
+      passed = record { next = l.next; rounds = l.rounds; removals = l.removals; reach = l.reach; added = l.added; arrived = l.arrived };
+      latest = l.latest;
       begun = l.cursor.begun;
     })
     l.rank

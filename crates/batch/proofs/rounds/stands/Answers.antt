@@ -11,8 +11,8 @@ returns-then-records-at c = rw (lt-leb _ _ c.if-records-at.true)
 
 pub returns-then-at-records : goal.returns-then-at-records
 unfolding stands
-returns-then-at-records c = rw (c.Starts-by.ensures, le-leb _ _ c.if-records-at.false, eq-eqb _ _ c.if-at-records.true) (sym (and-true _))
+returns-then-at-records c = rw (c.starts_by-by.ensures, le-leb _ _ c.if-records-at.false, eq-eqb _ _ c.if-at-records.true) (sym (and-true _))
 
 pub returns : goal.returns
 unfolding stands
-returns c = rw (c.Starts-by.ensures, c.start_at.ensures, le-leb _ _ c.if-records-at.false, ne_eqb _ _ c.if-at-records.false)
+returns c = rw (c.starts_by-by.ensures, c.start_at.ensures, le-leb _ _ c.if-records-at.false, ne_eqb _ _ c.if-at-records.false)
