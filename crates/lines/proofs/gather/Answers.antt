@@ -1,0 +1,35 @@
+-- `lines::gather` meets its contract. The invariant of its loop, Gathering: the records of count lines stand in the memory.
+use Prim.Native.Nat.{◌+◌, ◌-◌}
+use native.Mathlib.Omega.{arith}
+use Rattle.lines.specs.Lines.{line_feed}
+use Rattle.lines.proofs.Lines.{found_inside}
+use Rattle.lines.proofs.Gathering.{Gathering, gathering_start, gathering_other, gathering_many, gathering_turn, gathering_end}
+use Rattle.lines.proofs.gather.Goals as goal
+
+turn :
+    (k : tie.After-slice-known2 invariant-loop decreases-loop) →
+    Gathering k.before.before.before.before.before.before.before.before.before.before.before.before.before.args.bytes.now k.before.before.before.before.before.before.before.before.before.before.before.before.before.args.records.now k.before.before.put_record.new.0 (k.before.before.before.before.before.before.before.before.before.before.loop.count + 1) (k.before.before.before.before.before.before.before.before.before2.result + 1)
+turn k =
+    let l = k.before.before.before.before.before.before.before.before.before.before in
+    gathering_turn k.before.before.before.before.before.before.read-line.result l.loop.invariant k.before.before.before.before.before.before.before.before.before.loop-test.true k.before.before.before.before.before.before.before.before.before2.ensures k.before.before.before.before.before.before.read-line.ensures k.before.before.before.before.before.if1.false k.before.before.before.before.if2.false k.before.before.put_record.ensures
+
+pub loop-at-init : goal.loop-at-init
+loop-at-init c = gathering_start _ _
+
+pub slice_bounds-read_line-end : goal.slice_bounds-read_line-end
+slice_bounds-read_line-end c = found_inside line_feed _ _ (let h = c.loop-at-test.true in omega (arith, h)) c.before-end.ensures
+
+pub returns-then-kind-eq0 : goal.returns-then-kind-eq0
+returns-then-kind-eq0 c = gathering_other c.read_line-u.result c.loop-at.invariant c.loop-at-test.true c.before-end.ensures c.read_line-u.ensures c.if-kind-eq0.true
+
+pub returns-then-count-eq-RECORDS_MOST : goal.returns-then-count-eq-RECORDS_MOST
+returns-then-count-eq-RECORDS_MOST c = gathering_many c.read_line-u.result c.loop-at.invariant c.loop-at-test.true c.before-end.ensures c.read_line-u.ensures c.if-kind-eq0.false c.if-count-eq-RECORDS_MOST.true
+
+pub loop-at-preserved : goal.loop-at-preserved
+loop-at-preserved c = turn c
+
+pub returns-after-loop-at : goal.returns-after-loop-at
+returns-after-loop-at c = gathering_end c.loop-at.invariant c.loop-at-test.false
+
+pub returns-then-end-bytes : goal.returns-then-end-bytes
+returns-then-end-bytes c = gathering_end (turn c) (omega (arith, c.if-end-bytes.true))

@@ -1,0 +1,12 @@
+-- `update::due::fill` meets its contract. The invariant of its loop, Fills: what remains is the pairs put so far and what is left above the
+-- pair in hand. The measure is what is left.
+use lib.ListN.{length}
+use Rattle.update.specs.code.Merge.{Merges, left}
+use Rattle.update.proofs.Fills.{Fills}
+use Rattle.update.proofs.due.fill.Given as goal
+
+abbrev pub invariant-loop-place : goal.invariant-loop-place
+invariant-loop-place l = Fills l.card l.batch l.words l.packing l.place.rank × Merges l.card l.batch l.place
+
+abbrev pub decreases-loop-place : goal.decreases-loop-place
+decreases-loop-place l = length (left l.card l.batch l.place.rank)
