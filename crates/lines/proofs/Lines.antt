@@ -217,11 +217,11 @@ module _ (r : List ℕ) {j : ℕ} (one : j ≡ 0 + before tab (drop 0 r)) where
           fields_next rest h
           ∙ rw second-tab (ap (λ l. take (k - suc j) rest ∷ fields l) (drop-drop (suc (k - suc j)) (suc j) r ∙ ap (λ i. drop i r) e))
 
-      record_of :
+      record_of_removal :
           record_of ((letter_r ∷ []) ∷ fields r) ≡
           cond (is_number (take j r) && is_number (take (k - suc j) (drop (suc j) r)) && is_number (drop (suc k) r))
           (2 ∷ worth 0 (take j r) ∷ worth 0 (take (k - suc j) (drop (suc j) r)) ∷ worth 0 (drop (suc k) r) ∷ []) []
-      record_of =
+      record_of_removal =
           ap (λ fs. record_of ((letter_r ∷ []) ∷ fs)) (fields-first ∙ ap (λ fs. take j r ∷ fs) fields-second)
           ∙ removal_fields (take j r) (take (k - suc j) (drop (suc j) r)) (drop (suc k) r)
 
@@ -233,10 +233,10 @@ module _ (r : List ℕ) {j : ℕ} (one : j ≡ 0 + before tab (drop 0 r)) where
           (⊎_elim
           (λ l.
           ⊎_elim
-          (λ m. record_of ∙ rw (reads_none (take j r) first m))
-          (λ m. record_of ∙ rw (reads_none (take (k - suc j) (drop (suc j) r)) (second ∙ ap number_in middle) m, and-false a))
+          (λ m. record_of_removal ∙ rw (reads_none (take j r) first m))
+          (λ m. record_of_removal ∙ rw (reads_none (take (k - suc j) (drop (suc j) r)) (second ∙ ap number_in middle) m, and-false a))
           (or_cases (eqb x word_limit) (eqb y word_limit) l))
-          (λ l. record_of ∙ rw (reads_none (drop (suc k) r) (third ∙ ap number_in (behind r k)) l, and-false (a && b)))
+          (λ l. record_of_removal ∙ rw (reads_none (drop (suc k) r) (third ∙ ap number_in (behind r k)) l, and-false (a && b)))
           (or_cases (eqb x word_limit || eqb y word_limit) (eqb z word_limit) t))
 
       pub removal_read : (eqb x word_limit || eqb y word_limit || eqb z word_limit) ≡ false → 2 ∷ x ∷ y ∷ z ∷ [] ≡ record_of ((letter_r ∷ []) ∷ fields r)
@@ -245,7 +245,7 @@ module _ (r : List ℕ) {j : ℕ} (one : j ≡ 0 + before tab (drop 0 r)) where
           let a = reads (take j r) first (or_left (eqb x word_limit) (eqb y word_limit) l) in
           let b = reads (take (k - suc j) (drop (suc j) r)) (second ∙ ap number_in middle) (or_right (eqb x word_limit) (eqb y word_limit) l) in
           let d = reads (drop (suc k) r) (third ∙ ap number_in (behind r k)) (or_right (eqb x word_limit || eqb y word_limit) (eqb z word_limit) t) in
-          rw (a.1, b.1, d.1) (sym (record_of ∙ rw (a.0, b.0, d.0)))
+          rw (a.1, b.1, d.1) (sym (record_of_removal ∙ rw (a.0, b.0, d.0)))
 
 -- a line of fewer than two bytes
 pub line_short : (l : List ℕ) → length l < 2 → [] ≡ line_record l

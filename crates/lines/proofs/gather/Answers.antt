@@ -6,13 +6,6 @@ use Rattle.lines.proofs.Lines.{found_inside}
 use Rattle.lines.proofs.Gathering.{Gathering, gathering_start, gathering_other, gathering_many, gathering_turn, gathering_end}
 use Rattle.lines.proofs.gather.Goals as goal
 
-turn :
-    (k : tie.After-slice-known2 invariant-loop decreases-loop) →
-    Gathering k.before.before.before.before.before.before.before.before.before.before.before.before.before.args.bytes.now k.before.before.before.before.before.before.before.before.before.before.before.before.before.args.records.now k.before.before.put_record.new.0 (k.before.before.before.before.before.before.before.before.before.before.loop.count + 1) (k.before.before.before.before.before.before.before.before.before2.result + 1)
-turn k =
-    let l = k.before.before.before.before.before.before.before.before.before.before in
-    gathering_turn k.before.before.before.before.before.before.read-line.result l.loop.invariant k.before.before.before.before.before.before.before.before.before.loop-test.true k.before.before.before.before.before.before.before.before.before2.ensures k.before.before.before.before.before.before.read-line.ensures k.before.before.before.before.before.if1.false k.before.before.before.before.if2.false k.before.before.put_record.ensures
-
 pub loop-at-init : goal.loop-at-init
 loop-at-init c = gathering_start _ _
 
@@ -26,10 +19,16 @@ pub returns-then-count-eq-RECORDS_MOST : goal.returns-then-count-eq-RECORDS_MOST
 returns-then-count-eq-RECORDS_MOST c = gathering_many c.read_line-u.result c.loop-at.invariant c.loop-at-test.true c.before-end.ensures c.read_line-u.ensures c.if-kind-eq0.false c.if-count-eq-RECORDS_MOST.true
 
 pub loop-at-preserved : goal.loop-at-preserved
-loop-at-preserved c = turn c
+loop-at-preserved c =
+    let turn : Gathering c.args.bytes.now c.args.records.now c.put_record.new.records (c.loop-at.count + 1) (c.before-end.result + 1) =
+        gathering_turn c.read_line-u.result c.loop-at.invariant c.loop-at-test.true c.before-end.ensures c.read_line-u.ensures c.if-kind-eq0.false c.if-count-eq-RECORDS_MOST.false c.put_record.ensures in
+    turn
 
 pub returns-after-loop-at : goal.returns-after-loop-at
 returns-after-loop-at c = gathering_end c.loop-at.invariant c.loop-at-test.false
 
 pub returns-then-end-bytes : goal.returns-then-end-bytes
-returns-then-end-bytes c = gathering_end (turn c) (omega (arith, c.if-end-bytes.true))
+returns-then-end-bytes c =
+    let turn : Gathering c.args.bytes.now c.args.records.now c.put_record.new.records (c.loop-at.count + 1) (c.before-end.result + 1) =
+        gathering_turn c.read_line-u.result c.loop-at.invariant c.loop-at-test.true c.before-end.ensures c.read_line-u.ensures c.if-kind-eq0.false c.if-count-eq-RECORDS_MOST.false c.put_record.ensures in
+    gathering_end turn (omega (arith, c.if-end-bytes.true))

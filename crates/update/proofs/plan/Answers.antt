@@ -206,6 +206,6 @@ returns c =
     let y = c.settle-2 in
     rw (y.ensures.0, y.ensures.1)
     (record {
-      few = rw (length_put, kept, c.pre.1) (omega (arith, F.size_low));
-      of = λ r p a. plan_done F O a c.freed-freed.ensures used room p (sym compared ∙ c.if-not-same.false) (sym mapped ∙ c.if-not-same-2.false) _ (ap (λ (x : ℕ). x + 1) O.of_new) (kept ∙ c.pre.1);
+      few = rw (length_put, kept, c.requires.words_len) (omega (arith, F.size_low));
+      of = λ r p a. plan_done F O a c.freed-freed.ensures used room p (sym compared ∙ c.if-not-same.false) (sym mapped ∙ c.if-not-same-2.false) _ (ap (λ (x : ℕ). x + 1) O.of_new) (kept ∙ c.requires.words_len);
     })

@@ -26,13 +26,13 @@ buffer-zeros (suc n) (suc m) h = ap (λ (l : List ℕ). 0 ∷ l) (buffer-zeros n
 pub returns-then-judged-ne0 : goal.returns-then-judged-ne0
 unfolding refused
 returns-then-judged-ne0 c = let w = c.args.card.now in
-    answered_as {c = refused w c.judge-judged.result} (answer_refused w _ c.if-judged-ne0.true, refl)
+    answered_as {s = refused w c.judge-judged.result} (answer_refused w _ c.if-judged-ne0.true, refl)
     (ap (refused w) c.judge-judged.ensures ∙ sym (step_judged w c.args.batch.now (λ z. c.if-judged-ne0.true (c.judge-judged.ensures ∙ z))))
 
 pub returns-then-number-ne0 : goal.returns-then-number-ne0
 unfolding refused
 returns-then-number-ne0 c = let w = c.args.card.now in
-    answered_as {c = refused w c.batch_number-number.result} (answer_refused w _ c.if-number-ne0.true, refl)
+    answered_as {s = refused w c.batch_number-number.result} (answer_refused w _ c.if-number-ne0.true, refl)
     (ap (refused w) c.batch_number-number.ensures
     ∙ sym (step_unordered w c.args.batch.now (sym c.judge-judged.ensures ∙ c.if-judged-ne0.false) (λ z. c.if-number-ne0.true (c.batch_number-number.ensures ∙ z))))
 

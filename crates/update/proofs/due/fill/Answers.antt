@@ -21,7 +21,7 @@ loop-place-init c =
 
 pub returns-then-rank-eq0 : goal.returns-then-rank-eq0
 returns-then-rank-eq0 c =
-    fills_end c.loop-place.invariant.0 (facts _ c.pre.0) c.next-place.ensures c.if-rank-eq0.true
+    fills_end c.loop-place.invariant.0 (facts _ c.requires.card_value) c.next-place.ensures c.if-rank-eq0.true
 
 pub returns-then-not-put : goal.returns-then-not-put
 unfolding Words
@@ -33,7 +33,7 @@ returns-then-not-put c =
         ap (λ (r : PutAnswer). r.done) c.put-put.ensures.1 ∙ put_done _ _ _ in
     let h = sym done ∙ c.if-not-put.true in
     rw (c.put-put.ensures.0 ∙ put_none _ _ _ h)
-    (fills_full c.loop-place.invariant.0 (facts _ c.pre.0) c.next-place.ensures c.if-rank-eq0.false rest h)
+    (fills_full c.loop-place.invariant.0 (facts _ c.requires.card_value) c.next-place.ensures c.if-rank-eq0.false rest h)
 
 pub loop-place-preserved : goal.loop-place-preserved
 unfolding Words
@@ -45,6 +45,6 @@ loop-place-preserved c =
         ap (λ (r : PutAnswer). r.done) c.put-put.ensures.1 ∙ put_done _ _ _ in
     (
       rw (c.put-put.ensures.0, c.put-put.ensures.1)
-          (fills_turn c.loop-place.invariant.0 (facts _ c.pre.0) c.next-place.ensures c.if-rank-eq0.false rest (sym done ∙ c.if-not-put.false)),
+          (fills_turn c.loop-place.invariant.0 (facts _ c.requires.card_value) c.next-place.ensures c.if-rank-eq0.false rest (sym done ∙ c.if-not-put.false)),
       c.next-place.ensures.merges c.if-rank-eq0.false,
     )

@@ -40,7 +40,7 @@ along-whole-requires c =
     let batch_words : Words c.args.batch.now =
         λ i. omega (arith, c.type_inv.batch i) in
     let free : (y : ℕ) → c.args.start.place.rank < y → y < c.quiet_before-bound.result → Untouched (updates c.args.batch.now) y =
-        λ y. λ h. λ z. quiet_behind batch_words c.pre.1.1.1.1.1.decides c.pre.1.0 some y h (rw (c.quiet_before-bound.ensures, c.pre.1.1.0) at z) in
+        λ y. λ h. λ z. quiet_behind batch_words c.requires.merges.decides c.requires.batch_value some y h (rw (c.quiet_before-bound.ensures, c.requires.reaches_value) at z) in
     let none : c.loop-old.old.count ≡ 0 =
         eqb-true _ _ (and_left _ _ c.loop-old-test.true) in
     let reads : reads_on (rest c.args.card.now c.loop-old.old.at c.loop-old.old.end) ≡ true =
@@ -60,7 +60,7 @@ add-filling-requires c =
     let batch_words : Words c.args.batch.now =
         λ i. omega (arith, c.type_inv.batch i) in
     let free : (y : ℕ) → c.args.start.place.rank < y → y < c.quiet_before-bound.result → Untouched (updates c.args.batch.now) y =
-        λ y. λ h. λ z. quiet_behind batch_words c.pre.1.1.1.1.1.decides c.pre.1.0 some y h (rw (c.quiet_before-bound.ensures, c.pre.1.1.0) at z) in
+        λ y. λ h. λ z. quiet_behind batch_words c.requires.merges.decides c.requires.batch_value some y h (rw (c.quiet_before-bound.ensures, c.requires.reaches_value) at z) in
     let none : c.loop-old.old.count ≡ 0 =
         eqb-true _ _ (and_left _ _ c.loop-old-test.true) in
     let reads : reads_on (rest c.args.card.now c.loop-old.old.at c.loop-old.old.end) ≡ true =
@@ -79,9 +79,9 @@ add-filling-requires c =
     (along c.args.card.now first first.count).rank < c.quiet_before-bound.result =
         let bound = c.quiet_before-bound.result in
     omega (arith, ap (λ (o : OldCursor). o.rank) whole, leb-false bound c.along-whole.result.rank (or_left _ _ c.if-bound-highest.false)) in
-    record { card_value = c.pre.0; size_value = (
-        c.pre.1.1.1.0,
-        rw c.entry-first.ensures (entry_addable sound card_words some free c.loop-old.invariant none reads positive before c.pre.1.0),
+    record { card_value = c.requires.card_value; size_value = (
+        c.requires.size_value,
+        rw c.entry-first.ensures (entry_addable sound card_words some free c.loop-old.invariant none reads positive before c.requires.batch_value),
       ); addable =  }
 
 pub loop-old-smaller : goal.loop-old-smaller
@@ -96,7 +96,7 @@ loop-old-smaller c =
     let batch_words : Words c.args.batch.now =
         λ i. omega (arith, c.type_inv.batch i) in
     let free : (y : ℕ) → c.args.start.place.rank < y → y < c.quiet_before-bound.result → Untouched (updates c.args.batch.now) y =
-        λ y. λ h. λ z. quiet_behind batch_words c.pre.1.1.1.1.1.decides c.pre.1.0 some y h (rw (c.quiet_before-bound.ensures, c.pre.1.1.0) at z) in
+        λ y. λ h. λ z. quiet_behind batch_words c.requires.merges.decides c.requires.batch_value some y h (rw (c.quiet_before-bound.ensures, c.requires.reaches_value) at z) in
     let none : c.loop-old.old.count ≡ 0 =
         eqb-true _ _ (and_left _ _ c.loop-old-test.true) in
     let reads : reads_on (rest c.args.card.now c.loop-old.old.at c.loop-old.old.end) ≡ true =
@@ -129,7 +129,7 @@ loop-old-preserved c =
     let batch_words : Words c.args.batch.now =
         λ i. omega (arith, c.type_inv.batch i) in
     let free : (y : ℕ) → c.args.start.place.rank < y → y < c.quiet_before-bound.result → Untouched (updates c.args.batch.now) y =
-        λ y. λ h. λ z. quiet_behind batch_words c.pre.1.1.1.1.1.decides c.pre.1.0 some y h (rw (c.quiet_before-bound.ensures, c.pre.1.1.0) at z) in
+        λ y. λ h. λ z. quiet_behind batch_words c.requires.merges.decides c.requires.batch_value some y h (rw (c.quiet_before-bound.ensures, c.requires.reaches_value) at z) in
     let none : c.loop-old.old.count ≡ 0 =
         eqb-true _ _ (and_left _ _ c.loop-old-test.true) in
     let reads : reads_on (rest c.args.card.now c.loop-old.old.at c.loop-old.old.end) ≡ true =

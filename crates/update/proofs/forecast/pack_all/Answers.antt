@@ -39,7 +39,7 @@ returns-then-rank-eq0 c =
     let sound : Facts c.args.card.now =
         facts _ c.requires.card_value in
     let few : c.loop-place.filling.tally.blocks ≤ blocks_most =
-        packs_few c.loop-place.invariant.0 sound card_words c.pre.1.0 in
+        packs_few c.loop-place.invariant.0 sound card_words c.requires.batch_value in
     let g = c.loop-place.invariant.0 in
     record {
       few = few;
@@ -55,10 +55,10 @@ add-filling-requires c =
     let sound : Facts c.args.card.now =
         facts _ c.requires.card_value in
     let few : c.loop-place.filling.tally.blocks ≤ blocks_most =
-        packs_few c.loop-place.invariant.0 sound card_words c.pre.1.0 in
+        packs_few c.loop-place.invariant.0 sound card_words c.requires.batch_value in
     let size : c.of-k.result.size ≡ block_size c.args.card.now =
         (ordered_sound sound c.of-k.ensures).of_size in
-    record { card_value = c.pre.0; size_value = size; addable = packs_addable c.loop-place.invariant.0 c.next-place.ensures c.if-rank-eq0.false c.run-more.ensures sound c.pre.1.0 few }
+    record { card_value = c.requires.card_value; size_value = size; addable = packs_addable c.loop-place.invariant.0 c.next-place.ensures c.if-rank-eq0.false c.run-more.ensures sound c.requires.batch_value few }
 
 pub loop-place-smaller-then-reaches-more : goal.loop-place-smaller-then-reaches-more
 loop-place-smaller-then-reaches-more c =
@@ -80,7 +80,7 @@ add_entries-packed-requires c =
         (ordered_sound sound c.of-k.ensures).of_size in
     let turned : Packs c.args.card.now c.args.batch.now c.add-filling.result c.along-place.result.rank × Merges c.args.card.now c.args.batch.now c.along-place.result =
         rw c.along-place.ensures (packs_turn c.loop-place.invariant.0 c.next-place.ensures c.if-rank-eq0.false c.run-more.ensures _ c.add-filling.ensures, c.run-more.ensures.merges) in
-    (c.pre.0, (c.pre.1.0, (c.pre.1.1, (size, turned))))
+    (c.requires.card_value, (c.requires.batch_value, (c.requires.reaches_value, (size, turned))))
 
 pub loop-place-smaller : goal.loop-place-smaller
 loop-place-smaller c =

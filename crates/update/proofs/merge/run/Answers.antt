@@ -40,6 +40,6 @@ returns c =
         λ i. omega (arith, c.type_inv.batch i) in
     let m = c.args.merge in
     let count : m.old.at + m.old.count - m.old.at ≡ m.old.count = omega arith in
-    runs_up_to (facts _ c.pre.0) card_words c.pre.1.1.1.0 c.if-in_hand-rank.false c.pre.1.1.1.1 (rw c.of_rank-pair.ensures at c.if-of-term.false) _ _
-    (λ y l t z. untouched_behind batch_words c.pre.1.1.1.0.decides c.pre.1.0 c.pre.1.1.1.1 y l t (rw (c.untouched-to.ensures, c.pre.1.1.0) at z))
+    runs_up_to (facts _ c.requires.card_value) card_words c.requires.merges c.if-in_hand-rank.false c.requires.rank_nonzero (rw c.of_rank-pair.ensures at c.if-of-term.false) _ _
+    (λ y l t z. untouched_behind batch_words c.requires.merges.decides c.requires.batch_value c.requires.rank_nonzero y l t (rw (c.untouched-to.ensures, c.requires.reaches_value) at z))
     (rw count at c.up_to.ensures)

@@ -1,0 +1,7 @@
+-- `reader::cursor::yield_at` meets its contract. The invariant: the cursor in hand is behind i yields.
+use Prim.Native.Nat.{◌-◌}
+use Rattle.reader.proofs.Cursors.{behind_stop}
+use Rattle.reader.proofs.cursor.yield_at.Goals as goal
+
+pub returns-in-End : goal.returns-in-End
+returns-in-End c = behind_stop c.loop-i.invariant c.step_at-step.ensures c.in-End.is

@@ -1,0 +1,15 @@
+-- `reader::read` meets its contract. The invariant: count postings are in the answer words, and the cursor in hand is behind them.
+use Prim.Native.Nat.{◌-◌}
+use Rattle.reader.proofs.Readings.{taking_turn, taking_full, taking_end}
+use Rattle.reader.proofs.read.Goals as goal
+
+pub returns-in-End : goal.returns-in-End
+returns-in-End c =
+    taking_end c.loop-count.invariant c.step_at-step.ensures c.in-End.is c.open_at-start.ensures.0
+
+pub loop-count-preserved : goal.loop-count-preserved
+loop-count-preserved c =
+    taking_turn c.loop-count.invariant c.loop-count-test.true c.step_at-step.ensures c.in-Posting.is
+
+pub returns : goal.returns
+returns c = taking_full c.loop-count.invariant c.loop-count-test.false c.open_at-start.ensures.0
