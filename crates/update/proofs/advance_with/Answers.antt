@@ -16,7 +16,7 @@ write-requires c =
     let planned : PlanOf c.args.card.now (step c.args.card.now c.args.batch.now) c.plan-plan.new.words c.plan-plan.result =
         let w = c.args.card.now in
     let b = c.args.batch.now in
-    let m = remaining w b (facts w c.requires.card_value) (λ i. omega (arith, c.type_inv.card i)) (λ i. omega (arith, c.type_inv.batch i)) c.requires.batch_value in
+    let m = remaining w b (facts w c.requires.card_value) (λ i. omega (arith, c.slice_known-1.given i)) (λ i. omega (arith, c.shared_slice_known-1.given i)) c.requires.batch_value in
     rw (step_sound w b c.requires.card_value c.requires.batch_value) (c.plan-plan.ensures.of (remains w b) m.proper c.fill-due.ensures) in
     rw (length-take-le c.plan-plan.result.count c.plan-plan.new.words c.plan-plan.ensures.few) planned.inside
 
@@ -26,7 +26,7 @@ returns c =
     let planned : PlanOf c.args.card.now (step c.args.card.now c.args.batch.now) c.plan-plan.new.words c.plan-plan.result =
         let w = c.args.card.now in
     let b = c.args.batch.now in
-    let m = remaining w b (facts w c.requires.card_value) (λ i. omega (arith, c.type_inv.card i)) (λ i. omega (arith, c.type_inv.batch i)) c.requires.batch_value in
+    let m = remaining w b (facts w c.requires.card_value) (λ i. omega (arith, c.slice_known-1.given i)) (λ i. omega (arith, c.shared_slice_known-1.given i)) c.requires.batch_value in
     rw (step_sound w b c.requires.card_value c.requires.batch_value) (c.plan-plan.ensures.of (remains w b) m.proper c.fill-due.ensures) in
     let q = planned in
     (q.answer, c.write.ensures ∙ rw (q.start, q.words) (sym (step_writes c.args.card.now c.args.batch.now)))

@@ -3,6 +3,7 @@
 use native.Mathlib.Omega.{arith}
 use mathlib.Core.Path.{◌≡◌, sym, ap, ◌∙◌}
 use lib.ListN.{length}
+use borrow.Author.Tests.{not-true, not-false}
 use Rattle.pair.specs.Rank.{Words}
 use Rattle.pack.specs.code.Packing.{has_room}
 use Rattle.pack.specs.declared.PutAnswer.{PutAnswer}
@@ -31,7 +32,7 @@ returns-then-not-put c =
     (λ i. omega (arith, c.type_inv.card i)) (λ i. omega (arith, c.type_inv.batch i)) c.requires.batch_value in
     let done : c.put-put.result.done ≡ has_room (length c.loop-place.words) c.loop-place.packing c.next-place.result.rank =
         ap (λ (r : PutAnswer). r.done) c.put-put.ensures.1 ∙ put_done _ _ _ in
-    let h = sym done ∙ c.if-not-put.true in
+    let h = sym done ∙ not-true _ c.if-not-put.true in
     rw (c.put-put.ensures.0 ∙ put_none _ _ _ h)
     (fills_full c.loop-place.invariant.0 (facts _ c.requires.card_value) c.next-place.ensures c.if-rank-eq0.false rest h)
 
@@ -45,6 +46,6 @@ loop-place-preserved c =
         ap (λ (r : PutAnswer). r.done) c.put-put.ensures.1 ∙ put_done _ _ _ in
     (
       rw (c.put-put.ensures.0, c.put-put.ensures.1)
-          (fills_turn c.loop-place.invariant.0 (facts _ c.requires.card_value) c.next-place.ensures c.if-rank-eq0.false rest (sym done ∙ c.if-not-put.false)),
+          (fills_turn c.loop-place.invariant.0 (facts _ c.requires.card_value) c.next-place.ensures c.if-rank-eq0.false rest (sym done ∙ not-false _ c.if-not-put.false)),
       c.next-place.ensures.merges c.if-rank-eq0.false,
     )

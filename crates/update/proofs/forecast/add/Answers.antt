@@ -1,39 +1,45 @@
 -- `update::forecast::add` meets its contract: all have room, or the pair has none, or some behind it have none.
-use Prim.Native.Nat.{◌-◌, ◌≤◌}
+use Prim.Native.Nat.{ℕ, ◌-◌, ◌≤◌}
 use native.Mathlib.Omega.{arith}
 use mathlib.Core.Path.{◌≡◌, refl}
+use mathlib.Core.List.{List}
 use Rattle.pair.specs.Rank.{term, Words}
 use Rattle.pair.specs.Rising.{last}
 use Rattle.block.specs.Block.{cost}
 use Rattle.block.proofs.Size.{cost_low}
 use Rattle.pack.proofs.Holding.{cost_high}
 use Rattle.card.specs.Layout.{block_size}
+use Rattle.card.specs.Sound.{judged}
 use Rattle.card.proofs.Facts.{facts}
 use Rattle.update.specs.code.Merge.{run_at}
 use Rattle.update.proofs.Tallying.{spends_on, run_further, counts_fit, counts_next, counts_parted}
 use Rattle.update.proofs.forecast.add.Goals as goal
 
+-- the numbers in hand: the room of a block, what the pair x costs behind the pair d
+record Numbers (card : List ℕ) (b d x k : ℕ) : Type 0 where
+  low : 8 ≤ block_size card
+  size : b ≡ block_size card
+  cost : k ≡ cost (term d) x
+  some : 1 ≤ k
+  few : k ≤ 3
+
+numbers_of : (card : List ℕ) (b d x k : ℕ) → judged card ≡ 0 → b ≡ block_size card → k ≡ cost (term d) x → Numbers card b d x k
+numbers_of card b d x k s e f =
+    record {
+      low = (facts card s).size_low;
+      size = e;
+      cost = f;
+      some = rw f (cost_low (term d) x);
+      few = rw f (cost_high (term d) x);
+    }
+
 pub returns-then-head-more : goal.returns-then-head-more
 unfolding Words
 returns-then-head-more c =
     let words : Words c.args.card.now =
-        λ i. omega (arith, c.type_inv.card i)
-
-record Numbers (c : tie.After-last-of) : Type 0 where
-  low : 8 ≤ block_size c.args.card.now
-  size : c.args.size ≡ block_size c.args.card.now
-  cost : c.cost-head.result ≡ cost (term c.args.filling.last) c.args.rank
-  some : 1 ≤ c.cost-head.result
-  few : c.cost-head.result ≤ 3 in
-    let numbers : Numbers c =
-        let f = facts c.args.card.now c.requires.card_value in
-    record {
-      low = f.size_low;
-      size = c.requires.size_value;
-      cost = c.cost-head.ensures;
-      some = rw c.cost-head.ensures (cost_low (term c.args.filling.last) c.args.rank);
-      few = rw c.cost-head.ensures (cost_high (term c.args.filling.last) c.args.rank);
-    } in
+        λ i. omega (arith, c.type_inv.card i) in
+    let numbers : Numbers c.args.card.now c.args.size c.args.filling.last c.args.rank c.cost-head.result
+    = numbers_of c.args.card.now c.args.size c.args.filling.last c.args.rank c.cost-head.result c.requires.card_value c.requires.size_value c.cost-head.ensures in
     let highest : c.args.rank ≤ c.last_of-last.result =
         let a = c.args in
     omega (arith, c.last_of-last.ensures, (run_further a.card.now a.rank (term a.rank) a.at a.more a.more (omega arith) c.requires.addable.rising).0) in
@@ -51,23 +57,9 @@ pub returns-then-room-head : goal.returns-then-room-head
 unfolding Words
 returns-then-room-head c =
     let words : Words c.args.card.now =
-        λ i. omega (arith, c.type_inv.card i)
-
-record Numbers (c : tie.After-last-of) : Type 0 where
-  low : 8 ≤ block_size c.args.card.now
-  size : c.args.size ≡ block_size c.args.card.now
-  cost : c.cost-head.result ≡ cost (term c.args.filling.last) c.args.rank
-  some : 1 ≤ c.cost-head.result
-  few : c.cost-head.result ≤ 3 in
-    let numbers : Numbers c =
-        let f = facts c.args.card.now c.requires.card_value in
-    record {
-      low = f.size_low;
-      size = c.requires.size_value;
-      cost = c.cost-head.ensures;
-      some = rw c.cost-head.ensures (cost_low (term c.args.filling.last) c.args.rank);
-      few = rw c.cost-head.ensures (cost_high (term c.args.filling.last) c.args.rank);
-    } in
+        λ i. omega (arith, c.type_inv.card i) in
+    let numbers : Numbers c.args.card.now c.args.size c.args.filling.last c.args.rank c.cost-head.result
+    = numbers_of c.args.card.now c.args.size c.args.filling.last c.args.rank c.cost-head.result c.requires.card_value c.requires.size_value c.cost-head.ensures in
     let highest : c.args.rank ≤ c.last_of-last.result =
         let a = c.args in
     omega (arith, c.last_of-last.ensures, (run_further a.card.now a.rank (term a.rank) a.at a.more a.more (omega arith) c.requires.addable.rising).0) in
@@ -95,23 +87,9 @@ pub returns : goal.returns
 unfolding Words
 returns c =
     let words : Words c.args.card.now =
-        λ i. omega (arith, c.type_inv.card i)
-
-record Numbers (c : tie.After-last-of) : Type 0 where
-  low : 8 ≤ block_size c.args.card.now
-  size : c.args.size ≡ block_size c.args.card.now
-  cost : c.cost-head.result ≡ cost (term c.args.filling.last) c.args.rank
-  some : 1 ≤ c.cost-head.result
-  few : c.cost-head.result ≤ 3 in
-    let numbers : Numbers c =
-        let f = facts c.args.card.now c.requires.card_value in
-    record {
-      low = f.size_low;
-      size = c.requires.size_value;
-      cost = c.cost-head.ensures;
-      some = rw c.cost-head.ensures (cost_low (term c.args.filling.last) c.args.rank);
-      few = rw c.cost-head.ensures (cost_high (term c.args.filling.last) c.args.rank);
-    } in
+        λ i. omega (arith, c.type_inv.card i) in
+    let numbers : Numbers c.args.card.now c.args.size c.args.filling.last c.args.rank c.cost-head.result
+    = numbers_of c.args.card.now c.args.size c.args.filling.last c.args.rank c.cost-head.result c.requires.card_value c.requires.size_value c.cost-head.ensures in
     let between : let a = c.args in let end = last a.rank (run_at a.card.now (term a.rank) a.at (c.args.size - c.args.filling.used - (c.cost-head.result - 1) - 1)) in
     (a.rank ≤ end) × (end ≤ c.last_of-last.result) =
         let a = c.args in

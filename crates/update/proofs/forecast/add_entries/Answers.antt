@@ -46,7 +46,7 @@ along-whole-requires c =
     let reads : reads_on (rest c.args.card.now c.loop-old.old.at c.loop-old.old.end) ≡ true =
         sym (c.reads_on.ensures ∙ ap reads_on (drop_take c.loop-old.old.at c.loop-old.old.end c.args.card.now))
     ∙ and_right (eqb c.loop-old.old.count 0) _ c.loop-old-test.true in
-    rw c.entry-first.ensures (entry_stands_law sound card_words some free c.loop-old.invariant none reads, omega arith)
+    rw c.entry-first.ensures (record { stands = entry_stands_law sound card_words some free c.loop-old.invariant none reads; n_le_count = omega arith })
 
 pub add-filling-requires : goal.add-filling-requires
 unfolding Words
@@ -79,10 +79,7 @@ add-filling-requires c =
     (along c.args.card.now first first.count).rank < c.quiet_before-bound.result =
         let bound = c.quiet_before-bound.result in
     omega (arith, ap (λ (o : OldCursor). o.rank) whole, leb-false bound c.along-whole.result.rank (or_left _ _ c.if-bound-highest.false)) in
-    record { card_value = c.requires.card_value; size_value = (
-        c.requires.size_value,
-        rw c.entry-first.ensures (entry_addable sound card_words some free c.loop-old.invariant none reads positive before c.requires.batch_value),
-      ); addable =  }
+    record { card_value = c.requires.card_value; size_value = c.requires.size_value; addable = rw c.entry-first.ensures (entry_addable sound card_words some free c.loop-old.invariant none reads positive before c.requires.batch_value) }
 
 pub loop-old-smaller : goal.loop-old-smaller
 unfolding Words

@@ -80,7 +80,14 @@ add_entries-packed-requires c =
         (ordered_sound sound c.of-k.ensures).of_size in
     let turned : Packs c.args.card.now c.args.batch.now c.add-filling.result c.along-place.result.rank × Merges c.args.card.now c.args.batch.now c.along-place.result =
         rw c.along-place.ensures (packs_turn c.loop-place.invariant.0 c.next-place.ensures c.if-rank-eq0.false c.run-more.ensures _ c.add-filling.ensures, c.run-more.ensures.merges) in
-    (c.requires.card_value, (c.requires.batch_value, (c.requires.reaches_value, (size, turned))))
+    record {
+      card_value = c.requires.card_value;
+      batch_value = c.requires.batch_value;
+      reaches_value = c.requires.reaches_value;
+      size_value = size;
+      packs = turned.0;
+      merges = turned.1;
+    }
 
 pub loop-place-smaller : goal.loop-place-smaller
 loop-place-smaller c =

@@ -1,6 +1,7 @@
 -- `update::merge::next` meets its contract. The invariant of its loop: the place in hand is one of the merge, and what is left above its pair
 -- is what was left at first. The measure is the pairs, old and added, above it.
 use mathlib.Core.Path.{◌≡◌, ◌∙◌}
+use borrow.Author.Tests.{not-true, not-false}
 use Rattle.card.proofs.Facts.{facts}
 use Rattle.batch.specs.Batch.{updates}
 use Rattle.batch.specs.code.Rounds.{round_reaches}
@@ -38,7 +39,7 @@ returns-then-not-decision c =
     let n = c.if-rank-eq0.false in
     let i = c.loop-rank.invariant in
     let t = turn in
-    merged_kept n (i.1 ∙ turn_kept i.0 t n _ decided_of c.if-not-decision.true) (turn_merges i.0 t n _ decided_of)
+    merged_kept n (i.1 ∙ turn_kept i.0 t n _ decided_of (not-true _ c.if-not-decision.true)) (turn_merges i.0 t n _ decided_of)
 
 pub loop-rank-smaller : goal.loop-rank-smaller
 loop-rank-smaller c =
@@ -69,4 +70,4 @@ loop-rank-preserved c =
     let n = c.if-rank-eq0.false in
     let i = c.loop-rank.invariant in
     let t = turn in
-    (turn_merges i.0 t n _ decided_of, i.1 ∙ turn_withdrawn i.0 t n _ decided_of c.if-not-decision.false)
+    (turn_merges i.0 t n _ decided_of, i.1 ∙ turn_withdrawn i.0 t n _ decided_of (not-false _ c.if-not-decision.false))
