@@ -90,11 +90,11 @@ def of_crate(new, path):
     return new
 
 
-def turn_words(text, new):
-    """Whole words; behind a dot a name that is no field's in camel case is a label or a module, and stays."""
+def turn_words(text, new, made):
+    """Whole words; behind a dot a name without capitals is a module, or where Rattle makes names a label, and stays."""
     def turn(m):
         word = m[0]
-        if text[: m.start()].endswith('.') and not re.search(r'[a-z][A-Z]', word):
+        if text[: m.start()].endswith('.') and not re.search(r'[a-z][A-Z]' if made else r'-|[a-z][A-Z]', word):
             return word
         return new.get(word, word)
 
@@ -140,16 +140,16 @@ def main():
     for path in texts('crates/*/specs/**/*.antt', 'crates/*/proofs/**/*.antt'):
         finals.update(n for n in declared(path) if n not in new)
     kinds = [
-        (texts('crates/*/specs/**/*.antt', 'crates/*/proofs/**/*.antt'), lambda t, n: turn_words(t, n)),
-        (texts('crates/*/src/**/*.rt'), lambda t, n: turn_rust(t, n)),
-        (texts('crates/*/must-fail/*.edit'), lambda t, n: turn_edit(t, n, finals)),
-        (texts('README.md', 'docs/**/*.md'), lambda t, n: turn_spans(t, n)),
+        (texts('crates/*/specs/**/*.antt', 'crates/*/proofs/**/*.antt'), lambda t, n, p: turn_words(t, n, is_made(p))),
+        (texts('crates/*/src/**/*.rt'), lambda t, n, p: turn_rust(t, n)),
+        (texts('crates/*/must-fail/*.edit'), lambda t, n, p: turn_edit(t, n, finals)),
+        (texts('README.md', 'docs/**/*.md'), lambda t, n, p: turn_spans(t, n)),
     ]
     changed = 0
     for paths, turn in kinds:
         for path in paths:
             old = read(path)
-            text = turn(old, of_crate(new, path))
+            text = turn(old, of_crate(new, path), path)
             if text != old:
                 with open(path, 'w', encoding='utf-8') as f:
                     f.write(text)

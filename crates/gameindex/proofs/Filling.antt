@@ -30,6 +30,6 @@ pub paged :
     (answer ≡ page.answer_of (printed c t a z before)) × (after ≡ (printed c t a z before).memory) → answer ≡ given →
     Paged (page.number_of given) (page.lines_of given) after (printed c t a z before)
 paged c t a z before {answer} {given} e g =
-    let n = page-answers.answer-numbers c t a z before in
+    let n = page-answers.answer_numbers c t a z before in
     let same : given ≡ page.answer_of (printed c t a z before) = sym g ∙ e.0 in
     record { of_number = ap page.number_of same ∙ n.number; of_lines = ap page.lines_of same ∙ n.lines; of_memory = e.1 }
