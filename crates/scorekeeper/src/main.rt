@@ -2,53 +2,33 @@
 
 #![tactic(auto)]
 
-ghost use Rattle.std.specs.Prelude.{◌≤◌, length};
+ghost use Rattle.std.specs.Prelude.{◌≤◌, length, IfOk};
 
-use libc::{STDIN_FILENO, STDOUT_FILENO};
 use lines::SETTLING_BYTES;
 use scores::LINE_BYTES;
+use std::io;
+use std::io::{Read, Write};
 
-// How many bytes came, and whether every read was made.
-#[derive(Clone, Copy)]
-struct Input {
-    count: usize,
-    is_read: bool,
-}
-
-// Reads until the buffer is full, the input ends or a read fails.
-fn read_input(buffer: &mut [u8]) -> Input
-    ensures { result.count ≤ length buffer.new }
+// Reads until the buffer is full or the input ends, and answers how many bytes came.
+fn read_input<R: Read>(input: &mut R, buffer: &mut [u8]) -> io::Result<usize>
+    ensures { IfOk result (λ count. count ≤ length buffer.new) }
 {
     let mut count: usize = 0;
     while count < buffer.len() {
-        let got = libc::read(STDIN_FILENO, &mut buffer[count..]);
-        if got < 0 {
-            return Input {
-                count,
-                is_read: false,
-            };
-        }
-        let more = io::count(got, &buffer[count..]);
+        let more = input.read(&mut buffer[count..])?;
         if more == 0 {
             break;
         }
         count += more;
     }
-    Input {
-        count,
-        is_read: true,
-    }
+    Ok(count)
 }
 
-fn main() {
+fn main(rt: HostRuntime) -> io::Result<()> {
     let mut buffer = [0u8; SETTLING_BYTES];
-    let input = read_input(&mut buffer);
-    let count = input.count;
-    let is_read = input.is_read;
-    if is_read {
-        let outcome = scores::outcome_of(&buffer[..count]);
-        let mut line = [0u8; LINE_BYTES];
-        let length = scores::put_outcome(&mut line, outcome);
-        io::write_all(STDOUT_FILENO, &line[..length]);
-    }
+    let count = read_input(&mut rt.stdin(), &mut buffer)?;
+    let outcome = scores::outcome_of(&buffer[..count]);
+    let mut line = [0u8; LINE_BYTES];
+    let length = scores::put_outcome(&mut line, outcome);
+    io::writer(&rt).write_all(&line[..length])
 }
