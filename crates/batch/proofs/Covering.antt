@@ -1,5 +1,5 @@
 -- Of the records that start at or below a pair: which cover it, and which of those arrived later.
-use Prim.Native.Nat.{ℕ, zero, suc, max, ◌-◌, ◌≤◌, ◌<◌}
+use Prim.Native.Nat.{ℕ, zero, suc, max, ◌≤◌, ◌<◌}
 use native.Mathlib.Omega.{arith}
 use mathlib.Core.Path.{◌≡◌, refl, sym, ◌∙◌}
 use mathlib.Core.Bool.{Bool, true, false, cond, ◌&&◌, ◌||◌, or_assoc, or-false, and-false, and-true}
@@ -10,13 +10,12 @@ use borrow.Author.Tests.{ltb-true, ltb-false, le-leb, lt-leb, lt-ltb, ne_eqb, eq
 use Rattle.pair.specs.Rank.{word_limit, rank, position}
 use Rattle.pair.proofs.Tests.{or_left, or_right}
 use Rattle.repeat.proofs.Twice.{exchange}
-use Rattle.batch.specs.Batch.{Update, updates, any_update, covers, removes, adds, latest, falls}
+use Rattle.batch.specs.Batch.{Update, any_update, covers, removes, adds, latest, falls}
 use Rattle.batch.specs.code.Rounds.{starts, round_reaches, begun, reached}
-use Rattle.batch.specs.code.Search.{starting_to, reach_with, reach_of, rounds_with, rounds_of, start, reaches_to, none, removal}
+use Rattle.batch.specs.code.Search.{starting_to, reach_with, reach_of, rounds_with, rounds_of, reaches_to}
 use Rattle.batch.proofs.Annulling.{starting_begun, begun_reach}
 use Rattle.batch.proofs.Arriving.{latest_none}
 use Rattle.batch.proofs.InOrder.{EachUpdate, Formed}
-use Rattle.batch.proofs.Meaning.{removed}
 
 -- in a batch in order the updates above a pair do nothing to it
 pub any_beyond : (f : Update → Bool) (x : ℕ) → ((u : Update) → x < rank u.term u.from → f u ≡ false) → (us : List Update) (k : ℕ) → x < k → falls k us ≡ false → any_update f us ≡ false

@@ -11,8 +11,8 @@ use borrow.Author.Tests.{ltb-true, ltb-false, le-leb, lt-leb, leb-false}
 use Rattle.pair.specs.Rank.{rank}
 use Rattle.pair.proofs.Tests.{and_left, and_both}
 use Rattle.batch.specs.declared.Latest.{Latest}
-use Rattle.batch.specs.Batch.{Update, updates, latest}
-use Rattle.batch.specs.code.Search.{starting_to, removals_with, removals_of, behind, reaches_to, latest_with, latest_of, none, removal, Serves}
+use Rattle.batch.specs.Batch.{Update, latest}
+use Rattle.batch.specs.code.Search.{starting_to, removals_with, removals_of, reaches_to, latest_with, latest_of, Serves}
 
 -- a removal that does not reach to a pair does not reach to a later one
 short : (x y : ℕ) (u : Update) → x ≤ y → reaches_to x u ≡ false → reaches_to y u ≡ false

@@ -11,7 +11,7 @@ use lib.ListN.{length, take, drop, get_or, take-append-drop}
 use lib.Seq.{drop-drop}
 use lib.Dec.{ltb, leb, eqb}
 use Rattle.pair.specs.Rank.{rank}
-use Rattle.pair.specs.Rising.{Each, keep, within, rising_from, last}
+use Rattle.pair.specs.Rising.{Each, keep, rising_from, last}
 use Rattle.pair.proofs.Each.{each_imply, each_take, each_drop}
 use Rattle.pair.proofs.Keep.{keep_append, keep_none}
 use Rattle.pair.proofs.Parts.{at_most_all, each_at_most}

@@ -13,7 +13,7 @@ use Rattle.pair.proofs.Tests.{and_right}
 use Rattle.pair.proofs.Each.{each_last_cons}
 use Rattle.pair.proofs.Rising.{last_some, rising_second, rising_weaker, last_append}
 use Rattle.pair.proofs.Parts.{above_all, above_further}
-use Rattle.block.specs.Block.{pairs, due, goes_on}
+use Rattle.block.specs.Block.{due, goes_on}
 use Rattle.block.proofs.Due.{goes_on_some, due_high, due_some, due_whole, proper_due}
 use Rattle.card.specs.Layout.{block_size, place_count, start_of_old, length_of_old, boundary, around, old_places, new_places, pairs_at, live}
 use Rattle.card.specs.Sound.{blocks_sound}

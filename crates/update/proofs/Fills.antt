@@ -1,5 +1,5 @@
 -- The due block filled: what remains is the pairs put into it so far and what is left above the last of them.
-use Prim.Native.Nat.{ℕ, ◌+◌, ◌-◌, ◌<◌}
+use Prim.Native.Nat.{ℕ, ◌+◌, ◌<◌}
 use native.Mathlib.Omega.{arith}
 use mathlib.Core.Path.{◌≡◌, refl, sym, ap, ◌∙◌}
 use mathlib.Core.Bool.{Bool, true, false}
@@ -8,7 +8,6 @@ use lib.ListN.{length, replicate, length-append, length-replicate}
 use lib.Dec.{eqb, eqb-suc-zero}
 use borrow.Author.Tests.{eq-eqb, ne_eqb, leb-false}
 use Rattle.pair.specs.Rank.{term, Proper}
-use Rattle.pair.specs.Rising.{last}
 use Rattle.pair.proofs.Each.{each_second}
 use Rattle.block.specs.Block.{cost}
 use Rattle.pack.specs.code.Packing.{has_room, put_words, put}

@@ -12,7 +12,7 @@ use Rattle.pair.specs.Rank.{Proper}
 use Rattle.pair.specs.Rising.{Each, rising_from}
 use Rattle.pair.proofs.Order.{rank_term_position}
 use Rattle.pair.proofs.Rising.{rising_join, rising_weaker}
-use Rattle.block.specs.Block.{pairs, due, fitting}
+use Rattle.block.specs.Block.{due, fitting}
 use Rattle.block.proofs.Due.{fitting_some, rising_due, pairs_due_block, formed_due_block}
 use Rattle.card.specs.Layout.{block_size, place_count, start_of_old, length_of_old, length_of_new, boundary, entry, first_pair, place, around, new_places, pairs_at, due_place}
 use Rattle.card.specs.Sound.{blocks_sound}

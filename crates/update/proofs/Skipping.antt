@@ -9,7 +9,7 @@ use lib.ListN.{length}
 use lib.Dec.{ltb, leb, eqb}
 use borrow.Author.Tests.{leb-true, leb-false, not-true, lt-ltb, le-ltb}
 use Rattle.pair.specs.Rank.{Words}
-use Rattle.pair.specs.Rising.{keep, above, last, any}
+use Rattle.pair.specs.Rising.{keep, above, any}
 use Rattle.pair.proofs.Tests.{and_left, and_right}
 use Rattle.pair.proofs.Parts.{above_all}
 use Rattle.pair.proofs.Rising.{any_last, rising_cons}

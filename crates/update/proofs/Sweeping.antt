@@ -8,7 +8,7 @@ use lib.ListN.{length, take, drop, get_or, length-take, length-drop}
 use lib.Seq.{get_or-take, get_or-drop}
 use lib.Dec.{ltb, leb}
 use borrow.Author.Tests.{leb-true, leb-false}
-use Rattle.pair.specs.Rank.{rank, term, position, Words}
+use Rattle.pair.specs.Rank.{term, position, Words}
 use Rattle.pair.specs.Rising.{above}
 use Rattle.pair.proofs.Keep.{length_keep}
 use Rattle.pair.proofs.Parts.{above_further}

@@ -12,7 +12,7 @@ use Rattle.pair.specs.Rank.{rank, term, Proper, Words}
 use Rattle.pair.specs.Rising.{Each, rising_from, last}
 use Rattle.pair.proofs.Each.{each_second}
 use Rattle.pair.proofs.Rising.{rising_last, rising_first, rising_second, last_append}
-use Rattle.block.specs.Block.{cost, fitting, due, goes_on}
+use Rattle.block.specs.Block.{cost, fitting}
 use Rattle.block.proofs.Filling.{size_join, fitting_full, filled_full}
 use Rattle.block.proofs.Size.{size, cost_low, size_packed}
 use Rattle.card.specs.Layout.{block_size, place_count, start_of_old, length_of_old, length_of_new, old_places}

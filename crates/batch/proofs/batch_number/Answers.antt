@@ -1,6 +1,5 @@
 -- `batch::batch_number` meets its contract. The invariant of its loop, Reads: what the two flags say of the records read, with what is so
 -- of the rest, is so of the whole batch.
-use Prim.Native.Nat.{◌-◌}
 use mathlib.Core.Path.{◌≡◌, sym, ◌∙◌}
 use mathlib.Core.Bool.{cond}
 use Rattle.batch.specs.Batch.{updates, ill_numbered, batch_number}
@@ -21,23 +20,23 @@ loop-n-preserved c =
 pub returns-then-bad : goal.returns-then-bad
 returns-then-bad c =
     let number : batch_number c.args.batch.now ≡ cond c.loop-n.bad 6 (cond (ill_numbered (updates c.args.batch.now)) 14 (cond c.loop-n.fallen 7 0)) =
-        let n = c.loop-n.invariant in number_read n.2 n.0 n.1 c.loop-n-test.false in
+    let n = c.loop-n.invariant in number_read n.2 n.0 n.1 c.loop-n-test.false in
     sym (number ∙ rw c.if-bad.true)
 
 pub returns-then-ill_numbered : goal.returns-then-ill_numbered
 returns-then-ill_numbered c =
     let number : batch_number c.args.batch.now ≡ cond c.loop-n.bad 6 (cond (ill_numbered (updates c.args.batch.now)) 14 (cond c.loop-n.fallen 7 0)) =
-        let n = c.loop-n.invariant in number_read n.2 n.0 n.1 c.loop-n-test.false in
+    let n = c.loop-n.invariant in number_read n.2 n.0 n.1 c.loop-n-test.false in
     sym (number ∙ rw (c.if-bad.false, ← c.ill_numbered.ensures, c.if-ill_numbered.true))
 
 pub returns-then-fallen : goal.returns-then-fallen
 returns-then-fallen c =
     let number : batch_number c.args.batch.now ≡ cond c.loop-n.bad 6 (cond (ill_numbered (updates c.args.batch.now)) 14 (cond c.loop-n.fallen 7 0)) =
-        let n = c.loop-n.invariant in number_read n.2 n.0 n.1 c.loop-n-test.false in
+    let n = c.loop-n.invariant in number_read n.2 n.0 n.1 c.loop-n-test.false in
     sym (number ∙ rw (c.if-bad.false, ← c.ill_numbered.ensures, c.if-ill_numbered.false, c.if-fallen.true))
 
 pub returns : goal.returns
 returns c =
     let number : batch_number c.args.batch.now ≡ cond c.loop-n.bad 6 (cond (ill_numbered (updates c.args.batch.now)) 14 (cond c.loop-n.fallen 7 0)) =
-        let n = c.loop-n.invariant in number_read n.2 n.0 n.1 c.loop-n-test.false in
+    let n = c.loop-n.invariant in number_read n.2 n.0 n.1 c.loop-n-test.false in
     sym (number ∙ rw (c.if-bad.false, ← c.ill_numbered.ensures, c.if-ill_numbered.false, c.if-fallen.false))

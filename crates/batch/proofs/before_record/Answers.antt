@@ -22,7 +22,7 @@ unfolding before_record
 returns-then-term-pair c =
     let beyond : let a = c.args in let u = c.record_at-u.result in
     before_record a.batch.now a.n a.rank ≡ cond (eqb u.term (term a.rank)) (u.from - 1) highest_position =
-        rw (lt-leb _ _ c.if-batch-n.false, lt-leb _ _ (rw (c.first_rank.ensures, c.record_at-u.ensures) at c.if-first_rank-rank.false), c.record_at-u.ensures) in
+    rw (lt-leb _ _ c.if-batch-n.false, lt-leb _ _ (rw (c.first_rank.ensures, c.record_at-u.ensures) at c.if-first_rank-rank.false), c.record_at-u.ensures) in
     sym (beyond ∙ rw (eq-eqb _ _ (rw c.of_rank-pair.ensures at c.if-term-pair.true)))
 
 pub returns : goal.returns
@@ -30,5 +30,5 @@ unfolding before_record
 returns c =
     let beyond : let a = c.args in let u = c.record_at-u.result in
     before_record a.batch.now a.n a.rank ≡ cond (eqb u.term (term a.rank)) (u.from - 1) highest_position =
-        rw (lt-leb _ _ c.if-batch-n.false, lt-leb _ _ (rw (c.first_rank.ensures, c.record_at-u.ensures) at c.if-first_rank-rank.false), c.record_at-u.ensures) in
+    rw (lt-leb _ _ c.if-batch-n.false, lt-leb _ _ (rw (c.first_rank.ensures, c.record_at-u.ensures) at c.if-first_rank-rank.false), c.record_at-u.ensures) in
     sym (beyond ∙ rw (ne_eqb _ _ (rw c.of_rank-pair.ensures at c.if-term-pair.false)))

@@ -1,5 +1,4 @@
 -- `batch::fill_arrivals` meets its contract. The invariant of its loop, Numbering: the first n are written.
-use Prim.Native.Nat.{◌-◌}
 use Rattle.batch.proofs.Numbering.{numbering_turn, numbering_end}
 use Rattle.batch.proofs.fill_arrivals.Goals as goal
 

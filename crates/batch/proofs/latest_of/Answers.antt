@@ -1,5 +1,4 @@
 -- `batch::latest_of` meets its contract. The invariant of its loop: what is found from the record in hand on is what is asked for.
-use Prim.Native.Nat.{◌-◌}
 use mathlib.Core.Path.{sym, ◌∙◌}
 use Rattle.batch.specs.code.Search.{latest_of}
 use Rattle.batch.proofs.Records.{first_at, first_end}

@@ -1,5 +1,4 @@
 -- `batch::next_addition` meets its contract. The invariant of its loop: the search from the record in hand on finds what is asked for.
-use Prim.Native.Nat.{◌-◌}
 use mathlib.Core.Path.{sym, ◌∙◌}
 use Rattle.batch.specs.code.Search.{adds_above}
 use Rattle.batch.proofs.Search.{seeks_turn, seeks_found, seeks_end}

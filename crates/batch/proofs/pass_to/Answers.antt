@@ -1,5 +1,4 @@
 -- `batch::pass_to` meets its contract. The invariant of its loop: what is passed from the records in hand on is what is asked for.
-use Prim.Native.Nat.{◌-◌}
 use mathlib.Core.Path.{sym, ◌∙◌}
 use Rattle.batch.proofs.Search.{passing_turn, passing_stop, passing_end}
 use Rattle.batch.proofs.pass_to.Goals as goal

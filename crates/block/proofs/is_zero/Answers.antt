@@ -1,4 +1,3 @@
-use Prim.Native.Nat.{◌-◌}
 use Rattle.block.proofs.Walk.{zeros_turn, zeros_end}
 use Rattle.block.proofs.is_zero.Goals as goal
 

@@ -1,5 +1,4 @@
 -- `block::rises` meets its contract. The invariant, Rises: all positions rise exactly where those read do and the rest rises from the last of them.
-use Prim.Native.Nat.{◌-◌}
 use Rattle.block.proofs.Walk.{rises_turn, rises_end}
 use Rattle.block.proofs.rises.Goals as goal
 

@@ -1,5 +1,5 @@
 -- `block::scan` meets its contract. The invariant of its loop, Reading: what the block is as a whole is what the words from i on are, after a pair of the term and the position in hand.
-use Prim.Native.Nat.{ℕ, ◌-◌}
+use Prim.Native.Nat.{ℕ}
 use native.Mathlib.Omega.{arith}
 use mathlib.Core.Path.{◌≡◌, sym, ◌∙◌}
 use mathlib.Core.Bool.{true, false, ◌&&◌}

@@ -1,5 +1,4 @@
 -- `figures::number` meets its contract. The invariant of its loop, Reading: what is read is worth value, and the rest decides.
-use Prim.Native.Nat.{◌-◌}
 use Rattle.figures.proofs.Reading.{reading_start, reading_turn, reading_stop, reading_end, none_read, zero_read}
 use Rattle.figures.proofs.number.Goals as goal
 

@@ -16,19 +16,19 @@ returns-then-number-ne0 c = judged_early _ _ c.configuration_number-number.ensur
 pub scan_segment-new-requires : goal.scan_segment-new-requires
 scan_segment-new-requires c =
     let in_order : first_of (configuration_conditions c.args.card.now) ≡ 0 =
-        sym c.configuration_number-number.ensures ∙ c.if-number-ne0.false in
+    sym c.configuration_number-number.ensures ∙ c.if-number-ne0.false in
     let shape : Ordered c.args.card.now c.of-k.result =
-        configured in_order c.of-k.ensures in
+    configured in_order c.of-k.ensures in
     shape
 
 pub returns-then-not-new-k : goal.returns-then-not-new-k
 returns-then-not-new-k c =
     let in_order : first_of (configuration_conditions c.args.card.now) ≡ 0 =
-        sym c.configuration_number-number.ensures ∙ c.if-number-ne0.false in
+    sym c.configuration_number-number.ensures ∙ c.if-number-ne0.false in
     let shape : Ordered c.args.card.now c.of-k.result =
-        configured in_order c.of-k.ensures in
+    configured in_order c.of-k.ensures in
     let scanned : let w = c.args.card.now in c.scan_segment-new.result ≡ segment_scanned w 0 (new_places w) =
-        let o = shape in
+    let o = shape in
     let w = c.args.card.now in
     c.scan_segment-new.ensures ∙ ap (segment_scanned w 0) (rw (c.new_start.ensures, o.of_start, o.of_old, o.of_new) (around_on o (start_of_old w) (length_of_old w) (length_of_new w))) in
     judged_new _ in_order c.scan_segment-new.result scanned _ shape.of_boundary c.if-not-new-k.true
@@ -36,35 +36,35 @@ returns-then-not-new-k c =
 pub old_is_sound-requires : goal.old_is_sound-requires
 old_is_sound-requires c =
     let in_order : first_of (configuration_conditions c.args.card.now) ≡ 0 =
-        sym c.configuration_number-number.ensures ∙ c.if-number-ne0.false in
+    sym c.configuration_number-number.ensures ∙ c.if-number-ne0.false in
     let shape : Ordered c.args.card.now c.of-k.result =
-        configured in_order c.of-k.ensures in
+    configured in_order c.of-k.ensures in
     shape
 
 pub returns-then-not-old_is_sound : goal.returns-then-not-old_is_sound
 returns-then-not-old_is_sound c =
     let in_order : first_of (configuration_conditions c.args.card.now) ≡ 0 =
-        sym c.configuration_number-number.ensures ∙ c.if-number-ne0.false in
+    sym c.configuration_number-number.ensures ∙ c.if-number-ne0.false in
     let shape : Ordered c.args.card.now c.of-k.result =
-        configured in_order c.of-k.ensures in
+    configured in_order c.of-k.ensures in
     let scanned : let w = c.args.card.now in c.scan_segment-new.result ≡ segment_scanned w 0 (new_places w) =
-        let o = shape in
+    let o = shape in
     let w = c.args.card.now in
     c.scan_segment-new.ensures ∙ ap (segment_scanned w 0) (rw (c.new_start.ensures, o.of_start, o.of_old, o.of_new) (around_on o (start_of_old w) (length_of_old w) (length_of_new w))) in
     let whole : cond c.old_is_sound.result 0 4 ≡ judged c.args.card.now =
-        judged_old _ in_order c.scan_segment-new.result scanned _ shape.of_boundary c.if-not-new-k.false c.old_is_sound.result c.old_is_sound.ensures in
+    judged_old _ in_order c.scan_segment-new.result scanned _ shape.of_boundary c.if-not-new-k.false c.old_is_sound.result c.old_is_sound.ensures in
     rw c.if-not-old_is_sound.true at whole
 
 pub returns : goal.returns
 returns c =
     let in_order : first_of (configuration_conditions c.args.card.now) ≡ 0 =
-        sym c.configuration_number-number.ensures ∙ c.if-number-ne0.false in
+    sym c.configuration_number-number.ensures ∙ c.if-number-ne0.false in
     let shape : Ordered c.args.card.now c.of-k.result =
-        configured in_order c.of-k.ensures in
+    configured in_order c.of-k.ensures in
     let scanned : let w = c.args.card.now in c.scan_segment-new.result ≡ segment_scanned w 0 (new_places w) =
-        let o = shape in
+    let o = shape in
     let w = c.args.card.now in
     c.scan_segment-new.ensures ∙ ap (segment_scanned w 0) (rw (c.new_start.ensures, o.of_start, o.of_old, o.of_new) (around_on o (start_of_old w) (length_of_old w) (length_of_new w))) in
     let whole : cond c.old_is_sound.result 0 4 ≡ judged c.args.card.now =
-        judged_old _ in_order c.scan_segment-new.result scanned _ shape.of_boundary c.if-not-new-k.false c.old_is_sound.result c.old_is_sound.ensures in
+    judged_old _ in_order c.scan_segment-new.result scanned _ shape.of_boundary c.if-not-new-k.false c.old_is_sound.result c.old_is_sound.ensures in
     rw c.if-not-old_is_sound.false at whole

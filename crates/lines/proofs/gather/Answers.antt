@@ -1,5 +1,5 @@
 -- `lines::gather` meets its contract. The invariant of its loop, Gathering: the records of count lines stand in the memory.
-use Prim.Native.Nat.{◌+◌, ◌-◌}
+use Prim.Native.Nat.{◌+◌}
 use native.Mathlib.Omega.{arith}
 use Rattle.lines.specs.Lines.{line_feed}
 use Rattle.lines.proofs.Lines.{found_inside}
@@ -21,7 +21,7 @@ returns-then-count-eq-RECORDS_MOST c = gathering_many c.read_line-u.result c.loo
 pub loop-at-preserved : goal.loop-at-preserved
 loop-at-preserved c =
     let turn : Gathering c.args.bytes.now c.args.records.now c.put_record.new.records (c.loop-at.count + 1) (c.before-end.result + 1) =
-        gathering_turn c.read_line-u.result c.loop-at.invariant c.loop-at-test.true c.before-end.ensures c.read_line-u.ensures c.if-kind-eq0.false c.if-count-eq-RECORDS_MOST.false c.put_record.ensures in
+    gathering_turn c.read_line-u.result c.loop-at.invariant c.loop-at-test.true c.before-end.ensures c.read_line-u.ensures c.if-kind-eq0.false c.if-count-eq-RECORDS_MOST.false c.put_record.ensures in
     turn
 
 pub returns-after-loop-at : goal.returns-after-loop-at
@@ -30,5 +30,5 @@ returns-after-loop-at c = gathering_end c.loop-at.invariant c.loop-at-test.false
 pub returns-then-end-bytes : goal.returns-then-end-bytes
 returns-then-end-bytes c =
     let turn : Gathering c.args.bytes.now c.args.records.now c.put_record.new.records (c.loop-at.count + 1) (c.before-end.result + 1) =
-        gathering_turn c.read_line-u.result c.loop-at.invariant c.loop-at-test.true c.before-end.ensures c.read_line-u.ensures c.if-kind-eq0.false c.if-count-eq-RECORDS_MOST.false c.put_record.ensures in
+    gathering_turn c.read_line-u.result c.loop-at.invariant c.loop-at-test.true c.before-end.ensures c.read_line-u.ensures c.if-kind-eq0.false c.if-count-eq-RECORDS_MOST.false c.put_record.ensures in
     gathering_end turn (omega (arith, c.if-end-bytes.true))

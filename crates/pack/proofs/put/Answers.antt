@@ -17,9 +17,9 @@ returns-then-not-has_room c = let e = sym c.has_room.ensures ∙ c.if-not-has_ro
 pub offset_bounds-words-used : goal.offset_bounds-words-used
 offset_bounds-words-used c =
     let has : has_room (length c.args.words.now) c.args.packing c.args.rank ≡ true =
-        sym c.has_room.ensures ∙ c.if-not-has_room.false in
+    sym c.has_room.ensures ∙ c.if-not-has_room.false in
     let same_room : (c.args.packing.count < c.args.packing.used) × (c.args.packing.used + 1 ≤ length c.args.words.now) × (length c.args.words.now ≤ 1024) =
-        let e = sym c.cost.ensures ∙ c.if-cost-eq-POSITION_COST.true in
+    let e = sym c.cost.ensures ∙ c.if-cost-eq-POSITION_COST.true in
     let r = has_room_law _ _ _ (has) in
     (r.counted (λ f. omega (arith, e)), rw e at r.room, r.few) in
     omega (arith, same_room)
@@ -27,9 +27,9 @@ offset_bounds-words-used c =
 pub bounds-words-used : goal.bounds-words-used
 bounds-words-used c =
     let has : has_room (length c.args.words.now) c.args.packing c.args.rank ≡ true =
-        sym c.has_room.ensures ∙ c.if-not-has_room.false in
+    sym c.has_room.ensures ∙ c.if-not-has_room.false in
     let same_room : (c.args.packing.count < c.args.packing.used) × (c.args.packing.used + 1 ≤ length c.args.words.now) × (length c.args.words.now ≤ 1024) =
-        let e = sym c.cost.ensures ∙ c.if-cost-eq-POSITION_COST.true in
+    let e = sym c.cost.ensures ∙ c.if-cost-eq-POSITION_COST.true in
     let r = has_room_law _ _ _ (has) in
     (r.counted (λ f. omega (arith, e)), rw e at r.room, r.few) in
     omega (arith, same_room)
@@ -37,9 +37,9 @@ bounds-words-used c =
 pub overflow_sub-words : goal.overflow_sub-words
 overflow_sub-words c =
     let has : has_room (length c.args.words.now) c.args.packing c.args.rank ≡ true =
-        sym c.has_room.ensures ∙ c.if-not-has_room.false in
+    sym c.has_room.ensures ∙ c.if-not-has_room.false in
     let same_room : (c.args.packing.count < c.args.packing.used) × (c.args.packing.used + 1 ≤ length c.args.words.now) × (length c.args.words.now ≤ 1024) =
-        let e = sym c.cost.ensures ∙ c.if-cost-eq-POSITION_COST.true in
+    let e = sym c.cost.ensures ∙ c.if-cost-eq-POSITION_COST.true in
     let r = has_room_law _ _ _ (has) in
     (r.counted (λ f. omega (arith, e)), rw e at r.room, r.few) in
     omega (arith, same_room)
@@ -47,9 +47,9 @@ overflow_sub-words c =
 pub overflow_cast-words : goal.overflow_cast-words
 overflow_cast-words c =
     let has : has_room (length c.args.words.now) c.args.packing c.args.rank ≡ true =
-        sym c.has_room.ensures ∙ c.if-not-has_room.false in
+    sym c.has_room.ensures ∙ c.if-not-has_room.false in
     let same_room : (c.args.packing.count < c.args.packing.used) × (c.args.packing.used + 1 ≤ length c.args.words.now) × (length c.args.words.now ≤ 1024) =
-        let e = sym c.cost.ensures ∙ c.if-cost-eq-POSITION_COST.true in
+    let e = sym c.cost.ensures ∙ c.if-cost-eq-POSITION_COST.true in
     let r = has_room_law _ _ _ (has) in
     (r.counted (λ f. omega (arith, e)), rw e at r.room, r.few) in
     omega (arith, same_room)
@@ -57,9 +57,9 @@ overflow_cast-words c =
 pub offset_bounds-words-count : goal.offset_bounds-words-count
 offset_bounds-words-count c =
     let has : has_room (length c.args.words.now) c.args.packing c.args.rank ≡ true =
-        sym c.has_room.ensures ∙ c.if-not-has_room.false in
+    sym c.has_room.ensures ∙ c.if-not-has_room.false in
     let same_room : (c.args.packing.count < c.args.packing.used) × (c.args.packing.used + 1 ≤ length c.args.words.now) × (length c.args.words.now ≤ 1024) =
-        let e = sym c.cost.ensures ∙ c.if-cost-eq-POSITION_COST.true in
+    let e = sym c.cost.ensures ∙ c.if-cost-eq-POSITION_COST.true in
     let r = has_room_law _ _ _ (has) in
     (r.counted (λ f. omega (arith, e)), rw e at r.room, r.few) in
     omega (arith, same_room)
@@ -67,9 +67,9 @@ offset_bounds-words-count c =
 pub bounds-words-count : goal.bounds-words-count
 bounds-words-count c =
     let has : has_room (length c.args.words.now) c.args.packing c.args.rank ≡ true =
-        sym c.has_room.ensures ∙ c.if-not-has_room.false in
+    sym c.has_room.ensures ∙ c.if-not-has_room.false in
     let same_room : (c.args.packing.count < c.args.packing.used) × (c.args.packing.used + 1 ≤ length c.args.words.now) × (length c.args.words.now ≤ 1024) =
-        let e = sym c.cost.ensures ∙ c.if-cost-eq-POSITION_COST.true in
+    let e = sym c.cost.ensures ∙ c.if-cost-eq-POSITION_COST.true in
     let r = has_room_law _ _ _ (has) in
     (r.counted (λ f. omega (arith, e)), rw e at r.room, r.few) in
     simp length-set (omega (arith, same_room))
@@ -77,9 +77,9 @@ bounds-words-count c =
 pub overflow_add-result : goal.overflow_add-result
 overflow_add-result c =
     let has : has_room (length c.args.words.now) c.args.packing c.args.rank ≡ true =
-        sym c.has_room.ensures ∙ c.if-not-has_room.false in
+    sym c.has_room.ensures ∙ c.if-not-has_room.false in
     let same_room : (c.args.packing.count < c.args.packing.used) × (c.args.packing.used + 1 ≤ length c.args.words.now) × (length c.args.words.now ≤ 1024) =
-        let e = sym c.cost.ensures ∙ c.if-cost-eq-POSITION_COST.true in
+    let e = sym c.cost.ensures ∙ c.if-cost-eq-POSITION_COST.true in
     let r = has_room_law _ _ _ (has) in
     (r.counted (λ f. omega (arith, e)), rw e at r.room, r.few) in
     omega (arith, same_room)
@@ -88,7 +88,7 @@ pub returns-then-cost-eq-POSITION_COST : goal.returns-then-cost-eq-POSITION_COST
 unfolding put_words put
 returns-then-cost-eq-POSITION_COST c =
     let has : has_room (length c.args.words.now) c.args.packing c.args.rank ≡ true =
-        sym c.has_room.ensures ∙ c.if-not-has_room.false in
+    sym c.has_room.ensures ∙ c.if-not-has_room.false in
     let e = has in
     let f = sym c.cost.ensures ∙ c.if-cost-eq-POSITION_COST.true in
     rw c.of_rank-pair.ensures (simp (e, f), simp (e, f))
@@ -96,110 +96,110 @@ returns-then-cost-eq-POSITION_COST c =
 pub offset_bounds-words-used-2 : goal.offset_bounds-words-used-2
 offset_bounds-words-used-2 c =
     let has : has_room (length c.args.words.now) c.args.packing c.args.rank ≡ true =
-        sym c.has_room.ensures ∙ c.if-not-has_room.false in
+    sym c.has_room.ensures ∙ c.if-not-has_room.false in
     let three : cost (term c.args.packing.last) c.args.rank ≡ 3 =
-        cost_other (term c.args.packing.last) c.args.rank (λ f. c.if-cost-eq-POSITION_COST.false (c.cost.ensures ∙ f)) in
+    cost_other (term c.args.packing.last) c.args.rank (λ f. c.if-cost-eq-POSITION_COST.false (c.cost.ensures ∙ f)) in
     let other_room : (c.args.packing.used + 3 ≤ length c.args.words.now) × (length c.args.words.now ≤ 1024) =
-        let r = has_room_law _ _ _ (has) in (rw (three) at r.room, r.few) in
+    let r = has_room_law _ _ _ (has) in (rw (three) at r.room, r.few) in
     omega (arith, other_room)
 
 pub bounds-words-used-2 : goal.bounds-words-used-2
 bounds-words-used-2 c =
     let has : has_room (length c.args.words.now) c.args.packing c.args.rank ≡ true =
-        sym c.has_room.ensures ∙ c.if-not-has_room.false in
+    sym c.has_room.ensures ∙ c.if-not-has_room.false in
     let three : cost (term c.args.packing.last) c.args.rank ≡ 3 =
-        cost_other (term c.args.packing.last) c.args.rank (λ f. c.if-cost-eq-POSITION_COST.false (c.cost.ensures ∙ f)) in
+    cost_other (term c.args.packing.last) c.args.rank (λ f. c.if-cost-eq-POSITION_COST.false (c.cost.ensures ∙ f)) in
     let other_room : (c.args.packing.used + 3 ≤ length c.args.words.now) × (length c.args.words.now ≤ 1024) =
-        let r = has_room_law _ _ _ (has) in (rw (three) at r.room, r.few) in
+    let r = has_room_law _ _ _ (has) in (rw (three) at r.room, r.few) in
     omega (arith, other_room)
 
 pub overflow_add-words : goal.overflow_add-words
 overflow_add-words c =
     let has : has_room (length c.args.words.now) c.args.packing c.args.rank ≡ true =
-        sym c.has_room.ensures ∙ c.if-not-has_room.false in
+    sym c.has_room.ensures ∙ c.if-not-has_room.false in
     let three : cost (term c.args.packing.last) c.args.rank ≡ 3 =
-        cost_other (term c.args.packing.last) c.args.rank (λ f. c.if-cost-eq-POSITION_COST.false (c.cost.ensures ∙ f)) in
+    cost_other (term c.args.packing.last) c.args.rank (λ f. c.if-cost-eq-POSITION_COST.false (c.cost.ensures ∙ f)) in
     let other_room : (c.args.packing.used + 3 ≤ length c.args.words.now) × (length c.args.words.now ≤ 1024) =
-        let r = has_room_law _ _ _ (has) in (rw (three) at r.room, r.few) in
+    let r = has_room_law _ _ _ (has) in (rw (three) at r.room, r.few) in
     omega (arith, other_room)
 
 pub offset_bounds-words-used-3 : goal.offset_bounds-words-used-3
 offset_bounds-words-used-3 c =
     let has : has_room (length c.args.words.now) c.args.packing c.args.rank ≡ true =
-        sym c.has_room.ensures ∙ c.if-not-has_room.false in
+    sym c.has_room.ensures ∙ c.if-not-has_room.false in
     let three : cost (term c.args.packing.last) c.args.rank ≡ 3 =
-        cost_other (term c.args.packing.last) c.args.rank (λ f. c.if-cost-eq-POSITION_COST.false (c.cost.ensures ∙ f)) in
+    cost_other (term c.args.packing.last) c.args.rank (λ f. c.if-cost-eq-POSITION_COST.false (c.cost.ensures ∙ f)) in
     let other_room : (c.args.packing.used + 3 ≤ length c.args.words.now) × (length c.args.words.now ≤ 1024) =
-        let r = has_room_law _ _ _ (has) in (rw (three) at r.room, r.few) in
+    let r = has_room_law _ _ _ (has) in (rw (three) at r.room, r.few) in
     omega (arith, other_room)
 
 pub bounds-words-used-3 : goal.bounds-words-used-3
 bounds-words-used-3 c =
     let has : has_room (length c.args.words.now) c.args.packing c.args.rank ≡ true =
-        sym c.has_room.ensures ∙ c.if-not-has_room.false in
+    sym c.has_room.ensures ∙ c.if-not-has_room.false in
     let three : cost (term c.args.packing.last) c.args.rank ≡ 3 =
-        cost_other (term c.args.packing.last) c.args.rank (λ f. c.if-cost-eq-POSITION_COST.false (c.cost.ensures ∙ f)) in
+    cost_other (term c.args.packing.last) c.args.rank (λ f. c.if-cost-eq-POSITION_COST.false (c.cost.ensures ∙ f)) in
     let other_room : (c.args.packing.used + 3 ≤ length c.args.words.now) × (length c.args.words.now ≤ 1024) =
-        let r = has_room_law _ _ _ (has) in (rw (three) at r.room, r.few) in
+    let r = has_room_law _ _ _ (has) in (rw (three) at r.room, r.few) in
     simp length-set (omega (arith, other_room))
 
 pub overflow_add-words-2 : goal.overflow_add-words-2
 overflow_add-words-2 c =
     let has : has_room (length c.args.words.now) c.args.packing c.args.rank ≡ true =
-        sym c.has_room.ensures ∙ c.if-not-has_room.false in
+    sym c.has_room.ensures ∙ c.if-not-has_room.false in
     let three : cost (term c.args.packing.last) c.args.rank ≡ 3 =
-        cost_other (term c.args.packing.last) c.args.rank (λ f. c.if-cost-eq-POSITION_COST.false (c.cost.ensures ∙ f)) in
+    cost_other (term c.args.packing.last) c.args.rank (λ f. c.if-cost-eq-POSITION_COST.false (c.cost.ensures ∙ f)) in
     let other_room : (c.args.packing.used + 3 ≤ length c.args.words.now) × (length c.args.words.now ≤ 1024) =
-        let r = has_room_law _ _ _ (has) in (rw (three) at r.room, r.few) in
+    let r = has_room_law _ _ _ (has) in (rw (three) at r.room, r.few) in
     omega (arith, other_room)
 
 pub offset_bounds-words-used-4 : goal.offset_bounds-words-used-4
 offset_bounds-words-used-4 c =
     let has : has_room (length c.args.words.now) c.args.packing c.args.rank ≡ true =
-        sym c.has_room.ensures ∙ c.if-not-has_room.false in
+    sym c.has_room.ensures ∙ c.if-not-has_room.false in
     let three : cost (term c.args.packing.last) c.args.rank ≡ 3 =
-        cost_other (term c.args.packing.last) c.args.rank (λ f. c.if-cost-eq-POSITION_COST.false (c.cost.ensures ∙ f)) in
+    cost_other (term c.args.packing.last) c.args.rank (λ f. c.if-cost-eq-POSITION_COST.false (c.cost.ensures ∙ f)) in
     let other_room : (c.args.packing.used + 3 ≤ length c.args.words.now) × (length c.args.words.now ≤ 1024) =
-        let r = has_room_law _ _ _ (has) in (rw (three) at r.room, r.few) in
+    let r = has_room_law _ _ _ (has) in (rw (three) at r.room, r.few) in
     omega (arith, other_room)
 
 pub bounds-words-used-4 : goal.bounds-words-used-4
 bounds-words-used-4 c =
     let has : has_room (length c.args.words.now) c.args.packing c.args.rank ≡ true =
-        sym c.has_room.ensures ∙ c.if-not-has_room.false in
+    sym c.has_room.ensures ∙ c.if-not-has_room.false in
     let three : cost (term c.args.packing.last) c.args.rank ≡ 3 =
-        cost_other (term c.args.packing.last) c.args.rank (λ f. c.if-cost-eq-POSITION_COST.false (c.cost.ensures ∙ f)) in
+    cost_other (term c.args.packing.last) c.args.rank (λ f. c.if-cost-eq-POSITION_COST.false (c.cost.ensures ∙ f)) in
     let other_room : (c.args.packing.used + 3 ≤ length c.args.words.now) × (length c.args.words.now ≤ 1024) =
-        let r = has_room_law _ _ _ (has) in (rw (three) at r.room, r.few) in
+    let r = has_room_law _ _ _ (has) in (rw (three) at r.room, r.few) in
     simp length-set (omega (arith, other_room))
 
 pub overflow_add-result-2 : goal.overflow_add-result-2
 overflow_add-result-2 c =
     let has : has_room (length c.args.words.now) c.args.packing c.args.rank ≡ true =
-        sym c.has_room.ensures ∙ c.if-not-has_room.false in
+    sym c.has_room.ensures ∙ c.if-not-has_room.false in
     let three : cost (term c.args.packing.last) c.args.rank ≡ 3 =
-        cost_other (term c.args.packing.last) c.args.rank (λ f. c.if-cost-eq-POSITION_COST.false (c.cost.ensures ∙ f)) in
+    cost_other (term c.args.packing.last) c.args.rank (λ f. c.if-cost-eq-POSITION_COST.false (c.cost.ensures ∙ f)) in
     let other_room : (c.args.packing.used + 3 ≤ length c.args.words.now) × (length c.args.words.now ≤ 1024) =
-        let r = has_room_law _ _ _ (has) in (rw (three) at r.room, r.few) in
+    let r = has_room_law _ _ _ (has) in (rw (three) at r.room, r.few) in
     omega (arith, other_room)
 
 pub overflow_add-result-3 : goal.overflow_add-result-3
 overflow_add-result-3 c =
     let has : has_room (length c.args.words.now) c.args.packing c.args.rank ≡ true =
-        sym c.has_room.ensures ∙ c.if-not-has_room.false in
+    sym c.has_room.ensures ∙ c.if-not-has_room.false in
     let three : cost (term c.args.packing.last) c.args.rank ≡ 3 =
-        cost_other (term c.args.packing.last) c.args.rank (λ f. c.if-cost-eq-POSITION_COST.false (c.cost.ensures ∙ f)) in
+    cost_other (term c.args.packing.last) c.args.rank (λ f. c.if-cost-eq-POSITION_COST.false (c.cost.ensures ∙ f)) in
     let other_room : (c.args.packing.used + 3 ≤ length c.args.words.now) × (length c.args.words.now ≤ 1024) =
-        let r = has_room_law _ _ _ (has) in (rw (three) at r.room, r.few) in
+    let r = has_room_law _ _ _ (has) in (rw (three) at r.room, r.few) in
     omega (arith, other_room)
 
 pub returns : goal.returns
 unfolding put_words put
 returns c =
     let has : has_room (length c.args.words.now) c.args.packing c.args.rank ≡ true =
-        sym c.has_room.ensures ∙ c.if-not-has_room.false in
+    sym c.has_room.ensures ∙ c.if-not-has_room.false in
     let three : cost (term c.args.packing.last) c.args.rank ≡ 3 =
-        cost_other (term c.args.packing.last) c.args.rank (λ f. c.if-cost-eq-POSITION_COST.false (c.cost.ensures ∙ f)) in
+    cost_other (term c.args.packing.last) c.args.rank (λ f. c.if-cost-eq-POSITION_COST.false (c.cost.ensures ∙ f)) in
     let e = has in
     let f = three in
     rw c.of_rank-pair.ensures (simp (e, f), simp (e, f))

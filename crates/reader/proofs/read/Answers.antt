@@ -1,5 +1,4 @@
 -- `reader::read` meets its contract. The invariant: count postings are in the answer words, and the cursor in hand is behind them.
-use Prim.Native.Nat.{◌-◌}
 use Rattle.reader.proofs.Readings.{taking_turn, taking_full, taking_end}
 use Rattle.reader.proofs.read.Goals as goal
 

@@ -1,5 +1,4 @@
 -- `repeat::fill_slots` meets its contract. The invariant: of the numbers read some are in their slots, and the rest found another there.
-use Prim.Native.Nat.{◌-◌}
 use native.Mathlib.Omega.{arith}
 use Rattle.repeat.proofs.Rounds.{leaving_start, leaving_put, leaving_left, leaving_found}
 use Rattle.repeat.proofs.fill_slots.Goals as goal

@@ -1,5 +1,4 @@
 -- `repeat::neighbours_equal` meets its contract. The invariant: the answer is that for the records left, with the number before them.
-use Prim.Native.Nat.{◌-◌}
 use mathlib.Core.Path.{sym}
 use Rattle.repeat.proofs.Twins.{looking_none, looking_start, looking_turn, looking_found, looking_end}
 use Rattle.repeat.proofs.neighbours_equal.Goals as goal

@@ -1,5 +1,4 @@
 -- `repeat::put_records` meets its contract. The invariant: the first i numbers stand as records.
-use Prim.Native.Nat.{◌-◌}
 use Rattle.repeat.proofs.Twins.{putting_start, putting_turn}
 use Rattle.repeat.proofs.put_records.Goals as goal
 

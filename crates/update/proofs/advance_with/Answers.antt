@@ -14,7 +14,7 @@ pub write-requires : goal.write-requires
 unfolding Words
 write-requires c =
     let planned : PlanOf c.args.card.now (step c.args.card.now c.args.batch.now) c.plan-plan.new.words c.plan-plan.result =
-        let w = c.args.card.now in
+    let w = c.args.card.now in
     let b = c.args.batch.now in
     let m = remaining w b (facts w c.requires.card_value) (λ i. omega (arith, c.slice_known-1.given i)) (λ i. omega (arith, c.shared_slice_known-1.given i)) c.requires.batch_value in
     rw (step_sound w b c.requires.card_value c.requires.batch_value) (c.plan-plan.ensures.of (remains w b) m.proper c.fill-due.ensures) in
@@ -24,7 +24,7 @@ pub returns : goal.returns
 unfolding Words
 returns c =
     let planned : PlanOf c.args.card.now (step c.args.card.now c.args.batch.now) c.plan-plan.new.words c.plan-plan.result =
-        let w = c.args.card.now in
+    let w = c.args.card.now in
     let b = c.args.batch.now in
     let m = remaining w b (facts w c.requires.card_value) (λ i. omega (arith, c.slice_known-1.given i)) (λ i. omega (arith, c.shared_slice_known-1.given i)) c.requires.batch_value in
     rw (step_sound w b c.requires.card_value c.requires.batch_value) (c.plan-plan.ensures.of (remains w b) m.proper c.fill-due.ensures) in

@@ -15,27 +15,27 @@ use Rattle.update.proofs.plan.Goals as goal
 pub freed-freed-requires : goal.freed-freed-requires
 freed-freed-requires c =
     let F : Facts c.args.card.now =
-        facts c.args.card.now c.requires.card_value in
+    facts c.args.card.now c.requires.card_value in
     let in_order : Ordered c.args.card.now c.of-k.result =
-        ordered_sound F c.of-k.ensures in
+    ordered_sound F c.of-k.ensures in
     record { card_value = c.requires.card_value; ordered = in_order }
 
 pub settle-requires : goal.settle-requires
 settle-requires c =
     let F : Facts c.args.card.now =
-        facts c.args.card.now c.requires.card_value in
+    facts c.args.card.now c.requires.card_value in
     let in_order : Ordered c.args.card.now c.of-k.result =
-        ordered_sound F c.of-k.ensures in
+    ordered_sound F c.of-k.ensures in
     let few : c.freed-freed.result ≤ c.of-k.result.old_length =
-        rw in_order.of_old c.freed-freed.ensures.few in
+    rw in_order.of_old c.freed-freed.ensures.few in
     few
 
 pub returns-then-due-eq0 : goal.returns-then-due-eq0
 returns-then-due-eq0 c =
     let F : Facts c.args.card.now =
-        facts c.args.card.now c.requires.card_value in
+    facts c.args.card.now c.requires.card_value in
     let in_order : Ordered c.args.card.now c.of-k.result =
-        ordered_sound F c.of-k.ensures in
+    ordered_sound F c.of-k.ensures in
     let t = c.settle in
     rw (t.ensures.0, t.ensures.1)
     (record {
@@ -46,35 +46,35 @@ returns-then-due-eq0 c =
 pub overflow_add-grown : goal.overflow_add-grown
 overflow_add-grown c =
     let F : Facts c.args.card.now =
-        facts c.args.card.now c.requires.card_value in
+    facts c.args.card.now c.requires.card_value in
     let in_order : Ordered c.args.card.now c.of-k.result =
-        ordered_sound F c.of-k.ensures in
+    ordered_sound F c.of-k.ensures in
     let o = in_order in omega (arith, o.of_new, o.room, o.shaped.count_high)
 
 pub overflow_sub-k : goal.overflow_sub-k
 overflow_sub-k c =
     let F : Facts c.args.card.now =
-        facts c.args.card.now c.requires.card_value in
+    facts c.args.card.now c.requires.card_value in
     let in_order : Ordered c.args.card.now c.of-k.result =
-        ordered_sound F c.of-k.ensures in
+    ordered_sound F c.of-k.ensures in
     let few : c.freed-freed.result ≤ c.of-k.result.old_length =
-        rw in_order.of_old c.freed-freed.ensures.few in
+    rw in_order.of_old c.freed-freed.ensures.few in
     few
 
 pub overflow_add-k : goal.overflow_add-k
 overflow_add-k c =
     let F : Facts c.args.card.now =
-        facts c.args.card.now c.requires.card_value in
+    facts c.args.card.now c.requires.card_value in
     let in_order : Ordered c.args.card.now c.of-k.result =
-        ordered_sound F c.of-k.ensures in
+    ordered_sound F c.of-k.ensures in
     let o = in_order in omega (arith, o.of_new, o.of_old, o.room, o.shaped.count_high)
 
 pub returns-then-k-freed : goal.returns-then-k-freed
 returns-then-k-freed c =
     let F : Facts c.args.card.now =
-        facts c.args.card.now c.requires.card_value in
+    facts c.args.card.now c.requires.card_value in
     let in_order : Ordered c.args.card.now c.of-k.result =
-        ordered_sound F c.of-k.ensures in
+    ordered_sound F c.of-k.ensures in
     let o = in_order in
     record {
       few = omega arith;
@@ -84,19 +84,19 @@ returns-then-k-freed c =
 pub returns-then-not-same : goal.returns-then-not-same
 returns-then-not-same c =
     let F : Facts c.args.card.now =
-        facts c.args.card.now c.requires.card_value in
+    facts c.args.card.now c.requires.card_value in
     let in_order : Ordered c.args.card.now c.of-k.result =
-        ordered_sound F c.of-k.ensures in
+    ordered_sound F c.of-k.ensures in
     let O : Ordered c.args.card.now c.of-k.result =
-        in_order in
+    in_order in
     let used : c.args.due.used ≡ 0 → ⊥ =
-        c.if-due-eq0.false in
+    c.if-due-eq0.false in
     let room : length_of_old c.args.card.now - c.freed-freed.result + (length_of_new c.args.card.now + 1) < place_count c.args.card.now =
-        free_words _ O.of_places O.of_old O.of_new c.if-k-freed.false in
+    free_words _ O.of_places O.of_old O.of_new c.if-k-freed.false in
     let due_at : c.due_place-place.result ≡ due_place c.args.card.now =
-        c.due_place-place.ensures ∙ due_place_on O in
+    c.due_place-place.ensures ∙ due_place_on O in
     let compared : c.same.result ≡ same (place c.args.card.now (due_place c.args.card.now)) c.args.words.now =
-        c.same.ensures ∙ rw (c.place.ensures, due_at) in
+    c.same.ensures ∙ rw (c.place.ensures, due_at) in
     rw (c.place_start.ensures, due_at)
     (record {
       few = omega arith;
@@ -106,67 +106,67 @@ returns-then-not-same c =
 pub bounds-words-2 : goal.bounds-words-2
 bounds-words-2 c =
     let F : Facts c.args.card.now =
-        facts c.args.card.now c.requires.card_value in
+    facts c.args.card.now c.requires.card_value in
     let three : 2 < length c.args.words.now =
-        rw c.requires.words_len (omega (arith, F.size_low)) in
+    rw c.requires.words_len (omega (arith, F.size_low)) in
     three
 
 pub bounds-words-1 : goal.bounds-words-1
 bounds-words-1 c =
     let F : Facts c.args.card.now =
-        facts c.args.card.now c.requires.card_value in
+    facts c.args.card.now c.requires.card_value in
     let three : 2 < length c.args.words.now =
-        rw c.requires.words_len (omega (arith, F.size_low)) in
+    rw c.requires.words_len (omega (arith, F.size_low)) in
     omega (arith, three)
 
 pub slice_bounds-same-end : goal.slice_bounds-same-end
 slice_bounds-same-end c =
     let F : Facts c.args.card.now =
-        facts c.args.card.now c.requires.card_value in
+    facts c.args.card.now c.requires.card_value in
     let three : 2 < length c.args.words.now =
-        rw c.requires.words_len (omega (arith, F.size_low)) in
+    rw c.requires.words_len (omega (arith, F.size_low)) in
     let kept : length (set c.args.words.now 1 (get_or c.args.words.now 2 0)) ≡ length c.args.words.now =
-        length-set c.args.words.now 1 (get_or c.args.words.now 2 0) in
+    length-set c.args.words.now 1 (get_or c.args.words.now 2 0) in
     let two : 2 ≤ length (set c.args.words.now 1 (get_or c.args.words.now 2 0)) =
-        omega (arith, kept, three) in
+    omega (arith, kept, three) in
     two
 
 pub slice_bounds-same-end-2 : goal.slice_bounds-same-end-2
 slice_bounds-same-end-2 c =
     let F : Facts c.args.card.now =
-        facts c.args.card.now c.requires.card_value in
+    facts c.args.card.now c.requires.card_value in
     let three : 2 < length c.args.words.now =
-        rw c.requires.words_len (omega (arith, F.size_low)) in
+    rw c.requires.words_len (omega (arith, F.size_low)) in
     let kept : length (set c.args.words.now 1 (get_or c.args.words.now 2 0)) ≡ length c.args.words.now =
-        length-set c.args.words.now 1 (get_or c.args.words.now 2 0) in
+    length-set c.args.words.now 1 (get_or c.args.words.now 2 0) in
     let two : 2 ≤ length (set c.args.words.now 1 (get_or c.args.words.now 2 0)) =
-        omega (arith, kept, three) in
+    omega (arith, kept, three) in
     sym (length-take-le 2 (set c.args.words.now 1 (get_or c.args.words.now 2 0)) two)
 
 pub returns-then-not-same-2 : goal.returns-then-not-same-2
 returns-then-not-same-2 c =
     let F : Facts c.args.card.now =
-        facts c.args.card.now c.requires.card_value in
+    facts c.args.card.now c.requires.card_value in
     let in_order : Ordered c.args.card.now c.of-k.result =
-        ordered_sound F c.of-k.ensures in
+    ordered_sound F c.of-k.ensures in
     let O : Ordered c.args.card.now c.of-k.result =
-        in_order in
+    in_order in
     let used : c.args.due.used ≡ 0 → ⊥ =
-        c.if-due-eq0.false in
+    c.if-due-eq0.false in
     let room : length_of_old c.args.card.now - c.freed-freed.result + (length_of_new c.args.card.now + 1) < place_count c.args.card.now =
-        free_words _ O.of_places O.of_old O.of_new c.if-k-freed.false in
+    free_words _ O.of_places O.of_old O.of_new c.if-k-freed.false in
     let due_at : c.due_place-place.result ≡ due_place c.args.card.now =
-        c.due_place-place.ensures ∙ due_place_on O in
+    c.due_place-place.ensures ∙ due_place_on O in
     let compared : c.same.result ≡ same (place c.args.card.now (due_place c.args.card.now)) c.args.words.now =
-        c.same.ensures ∙ rw (c.place.ensures, due_at) in
+    c.same.ensures ∙ rw (c.place.ensures, due_at) in
     let three : 2 < length c.args.words.now =
-        rw c.requires.words_len (omega (arith, F.size_low)) in
+    rw c.requires.words_len (omega (arith, F.size_low)) in
     let kept : length (set c.args.words.now 1 (get_or c.args.words.now 2 0)) ≡ length c.args.words.now =
-        length-set c.args.words.now 1 (get_or c.args.words.now 2 0) in
+    length-set c.args.words.now 1 (get_or c.args.words.now 2 0) in
     let two : 2 ≤ length (set c.args.words.now 1 (get_or c.args.words.now 2 0)) =
-        omega (arith, kept, three) in
+    omega (arith, kept, three) in
     let mapped : c.same-2.result ≡ same (entry c.args.card.now (due_place c.args.card.now)) (take 2 (set c.args.words.now 1 (get_or c.args.words.now 2 0))) =
-        c.same-2.ensures ∙ rw (c.entry.ensures, due_at) in
+    c.same-2.ensures ∙ rw (c.entry.ensures, due_at) in
     rw (c.entry_start.ensures, due_at)
     (record {
       few = two;
@@ -176,33 +176,33 @@ returns-then-not-same-2 c =
 pub settle-requires-2 : goal.settle-requires-2
 settle-requires-2 c =
     let F : Facts c.args.card.now =
-        facts c.args.card.now c.requires.card_value in
+    facts c.args.card.now c.requires.card_value in
     let in_order : Ordered c.args.card.now c.of-k.result =
-        ordered_sound F c.of-k.ensures in
+    ordered_sound F c.of-k.ensures in
     let few : c.freed-freed.result ≤ c.of-k.result.old_length =
-        rw in_order.of_old c.freed-freed.ensures.few in
+    rw in_order.of_old c.freed-freed.ensures.few in
     few
 
 pub returns : goal.returns
 returns c =
     let F : Facts c.args.card.now =
-        facts c.args.card.now c.requires.card_value in
+    facts c.args.card.now c.requires.card_value in
     let in_order : Ordered c.args.card.now c.of-k.result =
-        ordered_sound F c.of-k.ensures in
+    ordered_sound F c.of-k.ensures in
     let O : Ordered c.args.card.now c.of-k.result =
-        in_order in
+    in_order in
     let used : c.args.due.used ≡ 0 → ⊥ =
-        c.if-due-eq0.false in
+    c.if-due-eq0.false in
     let room : length_of_old c.args.card.now - c.freed-freed.result + (length_of_new c.args.card.now + 1) < place_count c.args.card.now =
-        free_words _ O.of_places O.of_old O.of_new c.if-k-freed.false in
+    free_words _ O.of_places O.of_old O.of_new c.if-k-freed.false in
     let due_at : c.due_place-place.result ≡ due_place c.args.card.now =
-        c.due_place-place.ensures ∙ due_place_on O in
+    c.due_place-place.ensures ∙ due_place_on O in
     let compared : c.same.result ≡ same (place c.args.card.now (due_place c.args.card.now)) c.args.words.now =
-        c.same.ensures ∙ rw (c.place.ensures, due_at) in
+    c.same.ensures ∙ rw (c.place.ensures, due_at) in
     let kept : length (set c.args.words.now 1 (get_or c.args.words.now 2 0)) ≡ length c.args.words.now =
-        length-set c.args.words.now 1 (get_or c.args.words.now 2 0) in
+    length-set c.args.words.now 1 (get_or c.args.words.now 2 0) in
     let mapped : c.same-2.result ≡ same (entry c.args.card.now (due_place c.args.card.now)) (take 2 (set c.args.words.now 1 (get_or c.args.words.now 2 0))) =
-        c.same-2.ensures ∙ rw (c.entry.ensures, due_at) in
+    c.same-2.ensures ∙ rw (c.entry.ensures, due_at) in
     let y = c.settle-2 in
     rw (y.ensures.0, y.ensures.1)
     (record {

@@ -1,4 +1,3 @@
-use Prim.Native.Nat.{◌-◌}
 use Rattle.update.proofs.Copying.{compared_turn, compared_end, same_lengths}
 use Rattle.update.proofs.same.Goals as goal
 

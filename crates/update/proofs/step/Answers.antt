@@ -39,31 +39,31 @@ returns-then-number-ne0 c = let w = c.args.card.now in
 pub slice_bounds-buffer-end : goal.slice_bounds-buffer-end
 slice_bounds-buffer-end c =
     let J : judged c.args.card.now ≡ 0 =
-        sym c.judge-judged.ensures ∙ c.if-judged-ne0.false in
+    sym c.judge-judged.ensures ∙ c.if-judged-ne0.false in
     let F : Facts c.args.card.now =
-        facts c.args.card.now J in
+    facts c.args.card.now J in
     let size : c.of-k.result.size ≡ block_size c.args.card.now =
-        omega (arith, c.of-k.ensures.of_size, F.size_high) in
+    omega (arith, c.of-k.ensures.of_size, F.size_high) in
     omega (arith, size, F.size_high)
 
 pub slice_bounds-advance-end : goal.slice_bounds-advance-end
 slice_bounds-advance-end c =
     let J : judged c.args.card.now ≡ 0 =
-        sym c.judge-judged.ensures ∙ c.if-judged-ne0.false in
+    sym c.judge-judged.ensures ∙ c.if-judged-ne0.false in
     let F : Facts c.args.card.now =
-        facts c.args.card.now J in
+    facts c.args.card.now J in
     let size : c.of-k.result.size ≡ block_size c.args.card.now =
-        omega (arith, c.of-k.ensures.of_size, F.size_high) in
+    omega (arith, c.of-k.ensures.of_size, F.size_high) in
     buffer-count _ 1024 (omega (arith, size, F.size_high))
 
 pub advance-requires : goal.advance-requires
 advance-requires c =
     let J : judged c.args.card.now ≡ 0 =
-        sym c.judge-judged.ensures ∙ c.if-judged-ne0.false in
+    sym c.judge-judged.ensures ∙ c.if-judged-ne0.false in
     let N : batch_number c.args.batch.now ≡ 0 =
-        sym c.batch_number-number.ensures ∙ c.if-number-ne0.false in
+    sym c.batch_number-number.ensures ∙ c.if-number-ne0.false in
     let F : Facts c.args.card.now =
-        facts c.args.card.now J in
+    facts c.args.card.now J in
     let size : c.of-k.result.size ≡ block_size c.args.card.now =
-        omega (arith, c.of-k.ensures.of_size, F.size_high) in
+    omega (arith, c.of-k.ensures.of_size, F.size_high) in
     record { card_value = J; batch_value = N; words_value = rw size (buffer-zeros _ 1024 F.size_high) }

@@ -1,5 +1,4 @@
 -- `update::write` meets its contract. The invariant of its loop, Copied: the first i words are in place.
-use Prim.Native.Nat.{◌-◌}
 use Rattle.update.proofs.Copying.{copied_turn}
 use Rattle.update.proofs.write.Goals as goal
 

@@ -1,5 +1,5 @@
 -- `wanted::up_to` meets its contract: a look at both ends, then a search by halving.
-use Prim.Native.Nat.{◌-◌, zero-le}
+use Prim.Native.Nat.{zero-le}
 use native.Mathlib.Omega.{arith}
 use Rattle.pair.proofs.Search.{halved_start, halved_down}
 use Rattle.wanted.proofs.Wanting.{halved_found, all_up_to}

@@ -1,5 +1,4 @@
 -- `batch::rounds::annuls_later` meets its contract. The invariant of its loop: one of the records from the one in hand on does it where one of all does.
-use Prim.Native.Nat.{◌-◌}
 use native.Mathlib.Nat.{sub-zero}
 use native.Mathlib.Omega.{arith}
 use mathlib.Core.Path.{sym, ◌∙◌}

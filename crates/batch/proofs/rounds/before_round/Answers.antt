@@ -35,7 +35,7 @@ returns-then-to-start c =
     let next : let a = c.args in
     before_round (starts (updates a.batch.now)) a.reaches.now (min (length a.reaches.now) (length a.batch.now / 5)) a.at a.position a.to
     ≡ cond (ltb a.to c.start_at-start.result) a.to (c.start_at-start.result - 1) =
-        let g = c.begun-begun.ensures in
+    let g = c.begun-begun.ensures in
     let l = c.if-records-begun.false in
     rw (rw g at (sym c.reached.ensures ∙ c.if-reached.false), lt-leb _ _ (rw (c.lesser-records.ensures, g) at l), rw g at c.start_at-start.ensures) in
     sym (next ∙ rw (lt-ltb _ _ c.if-to-start.true))
@@ -46,7 +46,7 @@ returns-then-start-eq0 c =
     let next : let a = c.args in
     before_round (starts (updates a.batch.now)) a.reaches.now (min (length a.reaches.now) (length a.batch.now / 5)) a.at a.position a.to
     ≡ cond (ltb a.to c.start_at-start.result) a.to (c.start_at-start.result - 1) =
-        let g = c.begun-begun.ensures in
+    let g = c.begun-begun.ensures in
     let l = c.if-records-begun.false in
     rw (rw g at (sym c.reached.ensures ∙ c.if-reached.false), lt-leb _ _ (rw (c.lesser-records.ensures, g) at l), rw g at c.start_at-start.ensures) in
     sym (next ∙ rw (le-ltb _ _ c.if-to-start.false, c.if-start-eq0.true))
@@ -57,7 +57,7 @@ returns c =
     let next : let a = c.args in
     before_round (starts (updates a.batch.now)) a.reaches.now (min (length a.reaches.now) (length a.batch.now / 5)) a.at a.position a.to
     ≡ cond (ltb a.to c.start_at-start.result) a.to (c.start_at-start.result - 1) =
-        let g = c.begun-begun.ensures in
+    let g = c.begun-begun.ensures in
     let l = c.if-records-begun.false in
     rw (rw g at (sym c.reached.ensures ∙ c.if-reached.false), lt-leb _ _ (rw (c.lesser-records.ensures, g) at l), rw g at c.start_at-start.ensures) in
     sym (next ∙ rw (le-ltb _ _ c.if-to-start.false))

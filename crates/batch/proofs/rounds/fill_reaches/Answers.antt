@@ -1,5 +1,4 @@
 -- `batch::rounds::fill_reaches` meets its contract. The invariant of its loop, Filling: the first n are written.
-use Prim.Native.Nat.{◌-◌}
 use Rattle.batch.proofs.Filling.{filling_turn, filling_other, filling_end, filling_full}
 use Rattle.batch.proofs.rounds.fill_reaches.Goals as goal
 

@@ -1,5 +1,4 @@
 -- `batch::rounds::halve` meets its contract. The invariant of its loop, Halving: what is sought from low to high is what is asked for.
-use Prim.Native.Nat.{◌-◌}
 use mathlib.Core.Path.{sym}
 use borrow.Author.Tests.{le-leb, lt-leb}
 use Rattle.batch.proofs.Annulling.{halving_start, halving_up, halving_down, halving_end}

@@ -1,5 +1,4 @@
 -- `found::map::mapped_to` meets its contract: a search by halving of a map that rises. The invariant, Searching: the count that is sought lies from low to high.
-use Prim.Native.Nat.{◌-◌}
 use native.Mathlib.Omega.{arith}
 use mathlib.Core.Path.{ap, ◌∙◌}
 use Rattle.card.specs.Layout.{first_pair}

@@ -1,5 +1,4 @@
 -- `lines::line::before` meets its contract. The invariant of its loop, Passing: no mark was passed.
-use Prim.Native.Nat.{◌-◌}
 use Rattle.lines.proofs.Splitting.{passing_turn, passing_stop, passing_end}
 use Rattle.lines.proofs.line.before.Goals as goal
 

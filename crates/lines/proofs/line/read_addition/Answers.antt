@@ -19,25 +19,25 @@ returns-then-end-rest c = addition_short _ c.before-end.ensures c.if-end-rest.tr
 pub slice_bounds-number-end : goal.slice_bounds-number-end
 slice_bounds-number-end c =
     let inside : c.before-end.result ≤ length c.args.rest.now =
-        found_inside tab c.args.rest.now 0 (omega arith) c.before-end.ensures in
+    found_inside tab c.args.rest.now 0 (omega arith) c.before-end.ensures in
     sym (length-take-le _ c.args.rest.now inside)
 
 pub overflow_add-end : goal.overflow_add-end
 overflow_add-end c =
     let inside : c.before-end.result ≤ length c.args.rest.now =
-        found_inside tab c.args.rest.now 0 (omega arith) c.before-end.ensures in
+    found_inside tab c.args.rest.now 0 (omega arith) c.before-end.ensures in
     record { fits = omega (arith, inside, c.if-end-rest.false, c.well_formed.0) }
 
 pub slice_bounds-number-count : goal.slice_bounds-number-count
 slice_bounds-number-count c =
     let inside : c.before-end.result ≤ length c.args.rest.now =
-        found_inside tab c.args.rest.now 0 (omega arith) c.before-end.ensures in
+    found_inside tab c.args.rest.now 0 (omega arith) c.before-end.ensures in
     omega (arith, inside, c.if-end-rest.false)
 
 pub slice_bounds-number-start : goal.slice_bounds-number-start
 slice_bounds-number-start c =
     let inside : c.before-end.result ≤ length c.args.rest.now =
-        found_inside tab c.args.rest.now 0 (omega arith) c.before-end.ensures in
+    found_inside tab c.args.rest.now 0 (omega arith) c.before-end.ensures in
     omega (arith, inside, c.if-end-rest.false)
 
 pub returns-then-term-position : goal.returns-then-term-position

@@ -20,13 +20,13 @@ returns-then-first-rest c = removal_short _ c.before-first.ensures c.if-first-re
 pub overflow_add-first : goal.overflow_add-first
 overflow_add-first c =
     let one : c.before-first.result ≤ length c.args.rest.now =
-        found_inside tab c.args.rest.now 0 (omega arith) c.before-first.ensures in
+    found_inside tab c.args.rest.now 0 (omega arith) c.before-first.ensures in
     record { fits = omega (arith, one, c.if-first-rest.false, c.well_formed.0) }
 
 pub before-second-requires : goal.before-second-requires
 before-second-requires c =
     let one : c.before-first.result ≤ length c.args.rest.now =
-        found_inside tab c.args.rest.now 0 (omega arith) c.before-first.ensures in
+    found_inside tab c.args.rest.now 0 (omega arith) c.before-first.ensures in
     omega (arith, one, c.if-first-rest.false)
 
 pub returns-then-second-rest : goal.returns-then-second-rest
@@ -36,47 +36,47 @@ returns-then-second-rest c = removal_two _ c.before-first.ensures c.if-first-res
 pub slice_bounds-number-end : goal.slice_bounds-number-end
 slice_bounds-number-end c =
     let one : c.before-first.result ≤ length c.args.rest.now =
-        found_inside tab c.args.rest.now 0 (omega arith) c.before-first.ensures in
+    found_inside tab c.args.rest.now 0 (omega arith) c.before-first.ensures in
     sym (length-take-le _ c.args.rest.now one)
 
 pub slice_bounds-number-end-2 : goal.slice_bounds-number-end-2
 slice_bounds-number-end-2 c =
     let one : c.before-first.result ≤ length c.args.rest.now =
-        found_inside tab c.args.rest.now 0 (omega arith) c.before-first.ensures in
+    found_inside tab c.args.rest.now 0 (omega arith) c.before-first.ensures in
     let next : c.before-first.result + 1 ≤ length c.args.rest.now =
-        omega (arith, one, c.if-first-rest.false) in
+    omega (arith, one, c.if-first-rest.false) in
     let two : c.before-second.result ≤ length c.args.rest.now =
-        found_inside tab c.args.rest.now (c.before-first.result + 1) next c.before-second.ensures in
+    found_inside tab c.args.rest.now (c.before-first.result + 1) next c.before-second.ensures in
     two
 
 pub overflow_add-second : goal.overflow_add-second
 overflow_add-second c =
     let one : c.before-first.result ≤ length c.args.rest.now =
-        found_inside tab c.args.rest.now 0 (omega arith) c.before-first.ensures in
+    found_inside tab c.args.rest.now 0 (omega arith) c.before-first.ensures in
     let next : c.before-first.result + 1 ≤ length c.args.rest.now =
-        omega (arith, one, c.if-first-rest.false) in
+    omega (arith, one, c.if-first-rest.false) in
     let two : c.before-second.result ≤ length c.args.rest.now =
-        found_inside tab c.args.rest.now (c.before-first.result + 1) next c.before-second.ensures in
+    found_inside tab c.args.rest.now (c.before-first.result + 1) next c.before-second.ensures in
     record { fits = omega (arith, two, c.if-second-rest.false, c.well_formed.0) }
 
 pub slice_bounds-number-count-2 : goal.slice_bounds-number-count-2
 slice_bounds-number-count-2 c =
     let one : c.before-first.result ≤ length c.args.rest.now =
-        found_inside tab c.args.rest.now 0 (omega arith) c.before-first.ensures in
+    found_inside tab c.args.rest.now 0 (omega arith) c.before-first.ensures in
     let next : c.before-first.result + 1 ≤ length c.args.rest.now =
-        omega (arith, one, c.if-first-rest.false) in
+    omega (arith, one, c.if-first-rest.false) in
     let two : c.before-second.result ≤ length c.args.rest.now =
-        found_inside tab c.args.rest.now (c.before-first.result + 1) next c.before-second.ensures in
+    found_inside tab c.args.rest.now (c.before-first.result + 1) next c.before-second.ensures in
     omega (arith, two, c.if-second-rest.false)
 
 pub slice_bounds-number-start-2 : goal.slice_bounds-number-start-2
 slice_bounds-number-start-2 c =
     let one : c.before-first.result ≤ length c.args.rest.now =
-        found_inside tab c.args.rest.now 0 (omega arith) c.before-first.ensures in
+    found_inside tab c.args.rest.now 0 (omega arith) c.before-first.ensures in
     let next : c.before-first.result + 1 ≤ length c.args.rest.now =
-        omega (arith, one, c.if-first-rest.false) in
+    omega (arith, one, c.if-first-rest.false) in
     let two : c.before-second.result ≤ length c.args.rest.now =
-        found_inside tab c.args.rest.now (c.before-first.result + 1) next c.before-second.ensures in
+    found_inside tab c.args.rest.now (c.before-first.result + 1) next c.before-second.ensures in
     omega (arith, two, c.if-second-rest.false)
 
 pub returns-then-term-from : goal.returns-then-term-from

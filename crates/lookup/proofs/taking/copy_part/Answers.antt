@@ -1,5 +1,4 @@
 -- `lookup::taking::copy_part` meets its contract. The invariant: the first j words are moved.
-use Prim.Native.Nat.{◌-◌}
 use native.Mathlib.Omega.{arith}
 use Rattle.pair.proofs.Copying.{copying_turn}
 use Rattle.lookup.proofs.taking.copy_part.Goals as goal

@@ -1,5 +1,4 @@
 -- `reader::cursor::yield_at` meets its contract. The invariant: the cursor in hand is behind i yields.
-use Prim.Native.Nat.{◌-◌}
 use Rattle.reader.proofs.Cursors.{behind_stop}
 use Rattle.reader.proofs.cursor.yield_at.Goals as goal
 

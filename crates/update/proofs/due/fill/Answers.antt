@@ -28,10 +28,10 @@ pub returns-then-not-put : goal.returns-then-not-put
 unfolding Words
 returns-then-not-put c =
     let rest : Remaining c.args.card.now (remains c.args.card.now c.args.batch.now) =
-        remaining c.args.card.now c.args.batch.now (facts c.args.card.now c.requires.card_value)
+    remaining c.args.card.now c.args.batch.now (facts c.args.card.now c.requires.card_value)
     (λ i. omega (arith, c.type_inv.card i)) (λ i. omega (arith, c.type_inv.batch i)) c.requires.batch_value in
     let done : c.put-put.result.done ≡ has_room (length c.loop-place.words) c.loop-place.packing c.next-place.result.rank =
-        ap (λ (r : PutAnswer). r.done) c.put-put.ensures.1 ∙ put_done _ _ _ in
+    ap (λ (r : PutAnswer). r.done) c.put-put.ensures.1 ∙ put_done _ _ _ in
     let h = sym done ∙ not-true _ c.if-not-put.true in
     rw (c.put-put.ensures.0 ∙ put_none _ _ _ h)
     (fills_full c.loop-place.invariant.0 (facts _ c.requires.card_value) c.next-place.ensures c.if-rank-eq0.false rest h)
@@ -40,11 +40,10 @@ pub loop-place-preserved : goal.loop-place-preserved
 unfolding Words
 loop-place-preserved c =
     let rest : Remaining c.args.card.now (remains c.args.card.now c.args.batch.now) =
-        remaining c.args.card.now c.args.batch.now (facts c.args.card.now c.requires.card_value)
+    remaining c.args.card.now c.args.batch.now (facts c.args.card.now c.requires.card_value)
     (λ i. omega (arith, c.type_inv.card i)) (λ i. omega (arith, c.type_inv.batch i)) c.requires.batch_value in
     let done : c.put-put.result.done ≡ has_room (length c.loop-place.words) c.loop-place.packing c.next-place.result.rank =
-        ap (λ (r : PutAnswer). r.done) c.put-put.ensures.1 ∙ put_done _ _ _ in
-    (
+    ap (λ (r : PutAnswer). r.done) c.put-put.ensures.1 ∙ put_done _ _ _ in (
       rw (c.put-put.ensures.0, c.put-put.ensures.1)
           (fills_turn c.loop-place.invariant.0 (facts _ c.requires.card_value) c.next-place.ensures c.if-rank-eq0.false rest (sym done ∙ not-false _ c.if-not-put.false)),
       c.next-place.ensures.merges c.if-rank-eq0.false,

@@ -37,11 +37,11 @@ pub returns-then-head-more : goal.returns-then-head-more
 unfolding Words
 returns-then-head-more c =
     let words : Words c.args.card.now =
-        λ i. omega (arith, c.type_inv.card i) in
+    λ i. omega (arith, c.type_inv.card i) in
     let numbers : Numbers c.args.card.now c.args.size c.args.filling.last c.args.rank c.cost-head.result
     = numbers_of c.args.card.now c.args.size c.args.filling.last c.args.rank c.cost-head.result c.requires.card_value c.requires.size_value c.cost-head.ensures in
     let highest : c.args.rank ≤ c.last_of-last.result =
-        let a = c.args in
+    let a = c.args in
     omega (arith, c.last_of-last.ensures, (run_further a.card.now a.rank (term a.rank) a.at a.more a.more (omega arith) c.requires.addable.rising).0) in
     let n = numbers in
     let q = c.requires.addable in
@@ -57,11 +57,11 @@ pub returns-then-room-head : goal.returns-then-room-head
 unfolding Words
 returns-then-room-head c =
     let words : Words c.args.card.now =
-        λ i. omega (arith, c.type_inv.card i) in
+    λ i. omega (arith, c.type_inv.card i) in
     let numbers : Numbers c.args.card.now c.args.size c.args.filling.last c.args.rank c.cost-head.result
     = numbers_of c.args.card.now c.args.size c.args.filling.last c.args.rank c.cost-head.result c.requires.card_value c.requires.size_value c.cost-head.ensures in
     let highest : c.args.rank ≤ c.last_of-last.result =
-        let a = c.args in
+    let a = c.args in
     omega (arith, c.last_of-last.ensures, (run_further a.card.now a.rank (term a.rank) a.at a.more a.more (omega arith) c.requires.addable.rising).0) in
     let n = numbers in
     let q = c.requires.addable in
@@ -77,7 +77,7 @@ pub close-tally-requires-2 : goal.close-tally-requires-2
 close-tally-requires-2 c =
     let between : let a = c.args in let end = last a.rank (run_at a.card.now (term a.rank) a.at (c.args.size - c.args.filling.used - (c.cost-head.result - 1) - 1)) in
     (a.rank ≤ end) × (end ≤ c.last_of-last.result) =
-        let a = c.args in
+    let a = c.args in
     let h = run_further a.card.now a.rank (term a.rank) a.at (c.args.size - c.args.filling.used - (c.cost-head.result - 1) - 1) a.more (omega (arith, c.if-head-more.false)) c.requires.addable.rising in
     (h.0, omega (arith, c.last_of-last.ensures, h.1)) in
     let q = c.requires.addable in
@@ -87,12 +87,12 @@ pub returns : goal.returns
 unfolding Words
 returns c =
     let words : Words c.args.card.now =
-        λ i. omega (arith, c.type_inv.card i) in
+    λ i. omega (arith, c.type_inv.card i) in
     let numbers : Numbers c.args.card.now c.args.size c.args.filling.last c.args.rank c.cost-head.result
     = numbers_of c.args.card.now c.args.size c.args.filling.last c.args.rank c.cost-head.result c.requires.card_value c.requires.size_value c.cost-head.ensures in
     let between : let a = c.args in let end = last a.rank (run_at a.card.now (term a.rank) a.at (c.args.size - c.args.filling.used - (c.cost-head.result - 1) - 1)) in
     (a.rank ≤ end) × (end ≤ c.last_of-last.result) =
-        let a = c.args in
+    let a = c.args in
     let h = run_further a.card.now a.rank (term a.rank) a.at (c.args.size - c.args.filling.used - (c.cost-head.result - 1) - 1) a.more (omega (arith, c.if-head-more.false)) c.requires.addable.rising in
     (h.0, omega (arith, c.last_of-last.ensures, h.1)) in
     let n = numbers in

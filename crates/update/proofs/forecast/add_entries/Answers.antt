@@ -22,9 +22,9 @@ use Rattle.update.proofs.forecast.add_entries.Goals as goal
 pub entry-first-requires : goal.entry-first-requires
 entry-first-requires c =
     let none : c.loop-old.old.count ≡ 0 =
-        eqb-true _ _ (and_left _ _ c.loop-old-test.true) in
+    eqb-true _ _ (and_left _ _ c.loop-old-test.true) in
     let reads : reads_on (rest c.args.card.now c.loop-old.old.at c.loop-old.old.end) ≡ true =
-        sym (c.reads_on.ensures ∙ ap reads_on (drop_take c.loop-old.old.at c.loop-old.old.end c.args.card.now))
+    sym (c.reads_on.ensures ∙ ap reads_on (drop_take c.loop-old.old.at c.loop-old.old.end c.args.card.now))
     ∙ and_right (eqb c.loop-old.old.count 0) _ c.loop-old-test.true in
     entry_there c.loop-old.invariant.merges.stands none reads
 
@@ -32,19 +32,19 @@ pub along-whole-requires : goal.along-whole-requires
 unfolding Words
 along-whole-requires c =
     let some : 0 < c.args.start.place.rank =
-        let m = c.args.start.place in omega (arith, eqb-false m.rank 0 (or_right (not (eqb m.old.rank m.rank)) _ c.if-in_hand-rank.false)) in
+    let m = c.args.start.place in omega (arith, eqb-false m.rank 0 (or_right (not (eqb m.old.rank m.rank)) _ c.if-in_hand-rank.false)) in
     let sound : Facts c.args.card.now =
-        facts _ c.requires.card_value in
+    facts _ c.requires.card_value in
     let card_words : Words c.args.card.now =
-        λ i. omega (arith, c.type_inv.card i) in
+    λ i. omega (arith, c.type_inv.card i) in
     let batch_words : Words c.args.batch.now =
-        λ i. omega (arith, c.type_inv.batch i) in
+    λ i. omega (arith, c.type_inv.batch i) in
     let free : (y : ℕ) → c.args.start.place.rank < y → y < c.quiet_before-bound.result → Untouched (updates c.args.batch.now) y =
-        λ y. λ h. λ z. quiet_behind batch_words c.requires.merges.decides c.requires.batch_value some y h (rw (c.quiet_before-bound.ensures, c.requires.reaches_value) at z) in
+    λ y. λ h. λ z. quiet_behind batch_words c.requires.merges.decides c.requires.batch_value some y h (rw (c.quiet_before-bound.ensures, c.requires.reaches_value) at z) in
     let none : c.loop-old.old.count ≡ 0 =
-        eqb-true _ _ (and_left _ _ c.loop-old-test.true) in
+    eqb-true _ _ (and_left _ _ c.loop-old-test.true) in
     let reads : reads_on (rest c.args.card.now c.loop-old.old.at c.loop-old.old.end) ≡ true =
-        sym (c.reads_on.ensures ∙ ap reads_on (drop_take c.loop-old.old.at c.loop-old.old.end c.args.card.now))
+    sym (c.reads_on.ensures ∙ ap reads_on (drop_take c.loop-old.old.at c.loop-old.old.end c.args.card.now))
     ∙ and_right (eqb c.loop-old.old.count 0) _ c.loop-old-test.true in
     rw c.entry-first.ensures (record { stands = entry_stands_law sound card_words some free c.loop-old.invariant none reads; n_le_count = omega arith })
 
@@ -52,32 +52,32 @@ pub add-filling-requires : goal.add-filling-requires
 unfolding Words
 add-filling-requires c =
     let some : 0 < c.args.start.place.rank =
-        let m = c.args.start.place in omega (arith, eqb-false m.rank 0 (or_right (not (eqb m.old.rank m.rank)) _ c.if-in_hand-rank.false)) in
+    let m = c.args.start.place in omega (arith, eqb-false m.rank 0 (or_right (not (eqb m.old.rank m.rank)) _ c.if-in_hand-rank.false)) in
     let sound : Facts c.args.card.now =
-        facts _ c.requires.card_value in
+    facts _ c.requires.card_value in
     let card_words : Words c.args.card.now =
-        λ i. omega (arith, c.type_inv.card i) in
+    λ i. omega (arith, c.type_inv.card i) in
     let batch_words : Words c.args.batch.now =
-        λ i. omega (arith, c.type_inv.batch i) in
+    λ i. omega (arith, c.type_inv.batch i) in
     let free : (y : ℕ) → c.args.start.place.rank < y → y < c.quiet_before-bound.result → Untouched (updates c.args.batch.now) y =
-        λ y. λ h. λ z. quiet_behind batch_words c.requires.merges.decides c.requires.batch_value some y h (rw (c.quiet_before-bound.ensures, c.requires.reaches_value) at z) in
+    λ y. λ h. λ z. quiet_behind batch_words c.requires.merges.decides c.requires.batch_value some y h (rw (c.quiet_before-bound.ensures, c.requires.reaches_value) at z) in
     let none : c.loop-old.old.count ≡ 0 =
-        eqb-true _ _ (and_left _ _ c.loop-old-test.true) in
+    eqb-true _ _ (and_left _ _ c.loop-old-test.true) in
     let reads : reads_on (rest c.args.card.now c.loop-old.old.at c.loop-old.old.end) ≡ true =
-        sym (c.reads_on.ensures ∙ ap reads_on (drop_take c.loop-old.old.at c.loop-old.old.end c.args.card.now))
+    sym (c.reads_on.ensures ∙ ap reads_on (drop_take c.loop-old.old.at c.loop-old.old.end c.args.card.now))
     ∙ and_right (eqb c.loop-old.old.count 0) _ c.loop-old-test.true in
     let whole : let o = c.loop-old.old in
     let first = entry_read c.args.card.now o.at o.end o.place o.places in
     c.along-whole.result ≡ along c.args.card.now first first.count =
-        rw c.entry-first.ensures at c.along-whole.ensures in
+    rw c.entry-first.ensures at c.along-whole.ensures in
     let positive : let o = c.loop-old.old in
     0 < (entry_read c.args.card.now o.at o.end o.place o.places).rank =
-        let bound = c.quiet_before-bound.result in
+    let bound = c.quiet_before-bound.result in
     omega (arith, ap (λ (o : OldCursor). o.rank) c.entry-first.ensures, eqb-false c.entry-first.result.rank 0 (or_right (leb bound c.along-whole.result.rank) _ c.if-bound-highest.false)) in
     let before : let o = c.loop-old.old in
     let first = entry_read c.args.card.now o.at o.end o.place o.places in
     (along c.args.card.now first first.count).rank < c.quiet_before-bound.result =
-        let bound = c.quiet_before-bound.result in
+    let bound = c.quiet_before-bound.result in
     omega (arith, ap (λ (o : OldCursor). o.rank) whole, leb-false bound c.along-whole.result.rank (or_left _ _ c.if-bound-highest.false)) in
     record { card_value = c.requires.card_value; size_value = c.requires.size_value; addable = rw c.entry-first.ensures (entry_addable sound card_words some free c.loop-old.invariant none reads positive before c.requires.batch_value) }
 
@@ -85,32 +85,32 @@ pub loop-old-smaller : goal.loop-old-smaller
 unfolding Words
 loop-old-smaller c =
     let some : 0 < c.args.start.place.rank =
-        let m = c.args.start.place in omega (arith, eqb-false m.rank 0 (or_right (not (eqb m.old.rank m.rank)) _ c.if-in_hand-rank.false)) in
+    let m = c.args.start.place in omega (arith, eqb-false m.rank 0 (or_right (not (eqb m.old.rank m.rank)) _ c.if-in_hand-rank.false)) in
     let sound : Facts c.args.card.now =
-        facts _ c.requires.card_value in
+    facts _ c.requires.card_value in
     let card_words : Words c.args.card.now =
-        λ i. omega (arith, c.type_inv.card i) in
+    λ i. omega (arith, c.type_inv.card i) in
     let batch_words : Words c.args.batch.now =
-        λ i. omega (arith, c.type_inv.batch i) in
+    λ i. omega (arith, c.type_inv.batch i) in
     let free : (y : ℕ) → c.args.start.place.rank < y → y < c.quiet_before-bound.result → Untouched (updates c.args.batch.now) y =
-        λ y. λ h. λ z. quiet_behind batch_words c.requires.merges.decides c.requires.batch_value some y h (rw (c.quiet_before-bound.ensures, c.requires.reaches_value) at z) in
+    λ y. λ h. λ z. quiet_behind batch_words c.requires.merges.decides c.requires.batch_value some y h (rw (c.quiet_before-bound.ensures, c.requires.reaches_value) at z) in
     let none : c.loop-old.old.count ≡ 0 =
-        eqb-true _ _ (and_left _ _ c.loop-old-test.true) in
+    eqb-true _ _ (and_left _ _ c.loop-old-test.true) in
     let reads : reads_on (rest c.args.card.now c.loop-old.old.at c.loop-old.old.end) ≡ true =
-        sym (c.reads_on.ensures ∙ ap reads_on (drop_take c.loop-old.old.at c.loop-old.old.end c.args.card.now))
+    sym (c.reads_on.ensures ∙ ap reads_on (drop_take c.loop-old.old.at c.loop-old.old.end c.args.card.now))
     ∙ and_right (eqb c.loop-old.old.count 0) _ c.loop-old-test.true in
     let whole : let o = c.loop-old.old in
     let first = entry_read c.args.card.now o.at o.end o.place o.places in
     c.along-whole.result ≡ along c.args.card.now first first.count =
-        rw c.entry-first.ensures at c.along-whole.ensures in
+    rw c.entry-first.ensures at c.along-whole.ensures in
     let positive : let o = c.loop-old.old in
     0 < (entry_read c.args.card.now o.at o.end o.place o.places).rank =
-        let bound = c.quiet_before-bound.result in
+    let bound = c.quiet_before-bound.result in
     omega (arith, ap (λ (o : OldCursor). o.rank) c.entry-first.ensures, eqb-false c.entry-first.result.rank 0 (or_right (leb bound c.along-whole.result.rank) _ c.if-bound-highest.false)) in
     let before : let o = c.loop-old.old in
     let first = entry_read c.args.card.now o.at o.end o.place o.places in
     (along c.args.card.now first first.count).rank < c.quiet_before-bound.result =
-        let bound = c.quiet_before-bound.result in
+    let bound = c.quiet_before-bound.result in
     omega (arith, ap (λ (o : OldCursor). o.rank) whole, leb-false bound c.along-whole.result.rank (or_left _ _ c.if-bound-highest.false)) in
     rw whole (sweeps_less sound card_words some free c.loop-old.invariant none reads positive before)
 
@@ -118,31 +118,31 @@ pub loop-old-preserved : goal.loop-old-preserved
 unfolding Words
 loop-old-preserved c =
     let some : 0 < c.args.start.place.rank =
-        let m = c.args.start.place in omega (arith, eqb-false m.rank 0 (or_right (not (eqb m.old.rank m.rank)) _ c.if-in_hand-rank.false)) in
+    let m = c.args.start.place in omega (arith, eqb-false m.rank 0 (or_right (not (eqb m.old.rank m.rank)) _ c.if-in_hand-rank.false)) in
     let sound : Facts c.args.card.now =
-        facts _ c.requires.card_value in
+    facts _ c.requires.card_value in
     let card_words : Words c.args.card.now =
-        λ i. omega (arith, c.type_inv.card i) in
+    λ i. omega (arith, c.type_inv.card i) in
     let batch_words : Words c.args.batch.now =
-        λ i. omega (arith, c.type_inv.batch i) in
+    λ i. omega (arith, c.type_inv.batch i) in
     let free : (y : ℕ) → c.args.start.place.rank < y → y < c.quiet_before-bound.result → Untouched (updates c.args.batch.now) y =
-        λ y. λ h. λ z. quiet_behind batch_words c.requires.merges.decides c.requires.batch_value some y h (rw (c.quiet_before-bound.ensures, c.requires.reaches_value) at z) in
+    λ y. λ h. λ z. quiet_behind batch_words c.requires.merges.decides c.requires.batch_value some y h (rw (c.quiet_before-bound.ensures, c.requires.reaches_value) at z) in
     let none : c.loop-old.old.count ≡ 0 =
-        eqb-true _ _ (and_left _ _ c.loop-old-test.true) in
+    eqb-true _ _ (and_left _ _ c.loop-old-test.true) in
     let reads : reads_on (rest c.args.card.now c.loop-old.old.at c.loop-old.old.end) ≡ true =
-        sym (c.reads_on.ensures ∙ ap reads_on (drop_take c.loop-old.old.at c.loop-old.old.end c.args.card.now))
+    sym (c.reads_on.ensures ∙ ap reads_on (drop_take c.loop-old.old.at c.loop-old.old.end c.args.card.now))
     ∙ and_right (eqb c.loop-old.old.count 0) _ c.loop-old-test.true in
     let whole : let o = c.loop-old.old in
     let first = entry_read c.args.card.now o.at o.end o.place o.places in
     c.along-whole.result ≡ along c.args.card.now first first.count =
-        rw c.entry-first.ensures at c.along-whole.ensures in
+    rw c.entry-first.ensures at c.along-whole.ensures in
     let positive : let o = c.loop-old.old in
     0 < (entry_read c.args.card.now o.at o.end o.place o.places).rank =
-        let bound = c.quiet_before-bound.result in
+    let bound = c.quiet_before-bound.result in
     omega (arith, ap (λ (o : OldCursor). o.rank) c.entry-first.ensures, eqb-false c.entry-first.result.rank 0 (or_right (leb bound c.along-whole.result.rank) _ c.if-bound-highest.false)) in
     let before : let o = c.loop-old.old in
     let first = entry_read c.args.card.now o.at o.end o.place o.places in
     (along c.args.card.now first first.count).rank < c.quiet_before-bound.result =
-        let bound = c.quiet_before-bound.result in
+    let bound = c.quiet_before-bound.result in
     omega (arith, ap (λ (o : OldCursor). o.rank) whole, leb-false bound c.along-whole.result.rank (or_left _ _ c.if-bound-highest.false)) in
     rw whole (sweeps_turn sound card_words some free c.loop-old.invariant none reads positive before _ (rw c.entry-first.ensures at c.add-filling.ensures))

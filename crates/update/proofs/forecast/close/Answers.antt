@@ -16,13 +16,13 @@ returns-then-free-before c =
 pub overflow_sub-k : goal.overflow_sub-k
 overflow_sub-k c =
     let in_order : Ordered c.args.card.now c.of-k.result =
-        ordered_sound (facts _ c.requires.card_value) c.of-k.ensures in
+    ordered_sound (facts _ c.requires.card_value) c.of-k.ensures in
     omega (arith, c.spent_on-spent.ensures.spends.freeing.within, in_order.of_old)
 
 pub returns : goal.returns
 returns c =
     let in_order : Ordered c.args.card.now c.of-k.result =
-        ordered_sound (facts _ c.requires.card_value) c.of-k.ensures in
+    ordered_sound (facts _ c.requires.card_value) c.of-k.ensures in
     let o = in_order in
     rw c.count_block.ensures record {
       blocks = refl;

@@ -21,24 +21,24 @@ returns-then-number-ne0 c =
 pub returns-then-fill_reaches-eq0 : goal.returns-then-fill_reaches-eq0
 returns-then-fill_reaches-eq0 c =
     let J : judged c.args.card.now ≡ 0 =
-        sym c.judge-judged.ensures ∙ c.if-judged-ne0.false in
+    sym c.judge-judged.ensures ∙ c.if-judged-ne0.false in
     let N : batch_number c.args.batch.now ≡ 0 =
-        sym c.batch_number-number.ensures ∙ c.if-number-ne0.false in
+    sym c.batch_number-number.ensures ∙ c.if-number-ne0.false in
     c.look_ahead.ensures ∙ sym (forecast_sound _ _ J N)
 
 pub look_ahead-requires-2 : goal.look_ahead-requires-2
 look_ahead-requires-2 c =
     let J : judged c.args.card.now ≡ 0 =
-        sym c.judge-judged.ensures ∙ c.if-judged-ne0.false in
+    sym c.judge-judged.ensures ∙ c.if-judged-ne0.false in
     let N : batch_number c.args.batch.now ≡ 0 =
-        sym c.batch_number-number.ensures ∙ c.if-number-ne0.false in
+    sym c.batch_number-number.ensures ∙ c.if-number-ne0.false in
     let f = c.fill_reaches-count in
     record { card_value = J; batch_value = N; reaches_value = filled_whole _ _ f.ensures.0 f.ensures.1 (rw (length-replicate {A = ℕ} 4096 0) (rounds_most _ N)) }
 
 pub returns : goal.returns
 returns c =
     let J : judged c.args.card.now ≡ 0 =
-        sym c.judge-judged.ensures ∙ c.if-judged-ne0.false in
+    sym c.judge-judged.ensures ∙ c.if-judged-ne0.false in
     let N : batch_number c.args.batch.now ≡ 0 =
-        sym c.batch_number-number.ensures ∙ c.if-number-ne0.false in
+    sym c.batch_number-number.ensures ∙ c.if-number-ne0.false in
     c.look_ahead-2.ensures ∙ sym (forecast_sound _ _ J N)

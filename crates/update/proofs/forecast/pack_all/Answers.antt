@@ -21,25 +21,24 @@ pub loop-place-init : goal.loop-place-init
 unfolding Words
 loop-place-init c =
     let card_words : Words c.args.card.now =
-        λ i. omega (arith, c.type_inv.card i) in
+    λ i. omega (arith, c.type_inv.card i) in
     let batch_words : Words c.args.batch.now =
-        λ i. omega (arith, c.type_inv.batch i) in
+    λ i. omega (arith, c.type_inv.batch i) in
     let sound : Facts c.args.card.now =
-        facts _ c.requires.card_value in
-    (
-  rw c.start-place.ensures.bound (packs_start _ _ sound (remaining _ _ sound card_words batch_words c.requires.batch_value)),
-  merges_begun sound c.start-place.ensures,
-)
+    facts _ c.requires.card_value in (
+      rw c.start-place.ensures.bound (packs_start _ _ sound (remaining _ _ sound card_words batch_words c.requires.batch_value)),
+      merges_begun sound c.start-place.ensures,
+    )
 
 pub returns-then-rank-eq0 : goal.returns-then-rank-eq0
 unfolding Words
 returns-then-rank-eq0 c =
     let card_words : Words c.args.card.now =
-        λ i. omega (arith, c.type_inv.card i) in
+    λ i. omega (arith, c.type_inv.card i) in
     let sound : Facts c.args.card.now =
-        facts _ c.requires.card_value in
+    facts _ c.requires.card_value in
     let few : c.loop-place.filling.tally.blocks ≤ blocks_most =
-        packs_few c.loop-place.invariant.0 sound card_words c.requires.batch_value in
+    packs_few c.loop-place.invariant.0 sound card_words c.requires.batch_value in
     let g = c.loop-place.invariant.0 in
     record {
       few = few;
@@ -51,35 +50,35 @@ pub add-filling-requires : goal.add-filling-requires
 unfolding Words
 add-filling-requires c =
     let card_words : Words c.args.card.now =
-        λ i. omega (arith, c.type_inv.card i) in
+    λ i. omega (arith, c.type_inv.card i) in
     let sound : Facts c.args.card.now =
-        facts _ c.requires.card_value in
+    facts _ c.requires.card_value in
     let few : c.loop-place.filling.tally.blocks ≤ blocks_most =
-        packs_few c.loop-place.invariant.0 sound card_words c.requires.batch_value in
+    packs_few c.loop-place.invariant.0 sound card_words c.requires.batch_value in
     let size : c.of-k.result.size ≡ block_size c.args.card.now =
-        (ordered_sound sound c.of-k.ensures).of_size in
+    (ordered_sound sound c.of-k.ensures).of_size in
     record { card_value = c.requires.card_value; size_value = size; addable = packs_addable c.loop-place.invariant.0 c.next-place.ensures c.if-rank-eq0.false c.run-more.ensures sound c.requires.batch_value few }
 
 pub loop-place-smaller-then-reaches-more : goal.loop-place-smaller-then-reaches-more
 loop-place-smaller-then-reaches-more c =
     let fewer : length (left c.args.card.now c.args.batch.now c.along-place.result.rank) < length (left c.args.card.now c.args.batch.now c.loop-place.place.rank) =
-        rw c.along-place.ensures (packs_less c.loop-place.invariant.0 c.next-place.ensures c.if-rank-eq0.false c.run-more.ensures) in
+    rw c.along-place.ensures (packs_less c.loop-place.invariant.0 c.next-place.ensures c.if-rank-eq0.false c.run-more.ensures) in
     fewer
 
 pub loop-place-preserved-then-reaches-more : goal.loop-place-preserved-then-reaches-more
 loop-place-preserved-then-reaches-more c =
     let turned : Packs c.args.card.now c.args.batch.now c.add-filling.result c.along-place.result.rank × Merges c.args.card.now c.args.batch.now c.along-place.result =
-        rw c.along-place.ensures (packs_turn c.loop-place.invariant.0 c.next-place.ensures c.if-rank-eq0.false c.run-more.ensures _ c.add-filling.ensures, c.run-more.ensures.merges) in
+    rw c.along-place.ensures (packs_turn c.loop-place.invariant.0 c.next-place.ensures c.if-rank-eq0.false c.run-more.ensures _ c.add-filling.ensures, c.run-more.ensures.merges) in
     turned
 
 pub add_entries-packed-requires : goal.add_entries-packed-requires
 add_entries-packed-requires c =
     let sound : Facts c.args.card.now =
-        facts _ c.requires.card_value in
+    facts _ c.requires.card_value in
     let size : c.of-k.result.size ≡ block_size c.args.card.now =
-        (ordered_sound sound c.of-k.ensures).of_size in
+    (ordered_sound sound c.of-k.ensures).of_size in
     let turned : Packs c.args.card.now c.args.batch.now c.add-filling.result c.along-place.result.rank × Merges c.args.card.now c.args.batch.now c.along-place.result =
-        rw c.along-place.ensures (packs_turn c.loop-place.invariant.0 c.next-place.ensures c.if-rank-eq0.false c.run-more.ensures _ c.add-filling.ensures, c.run-more.ensures.merges) in
+    rw c.along-place.ensures (packs_turn c.loop-place.invariant.0 c.next-place.ensures c.if-rank-eq0.false c.run-more.ensures _ c.add-filling.ensures, c.run-more.ensures.merges) in
     record {
       card_value = c.requires.card_value;
       batch_value = c.requires.batch_value;
@@ -92,5 +91,5 @@ add_entries-packed-requires c =
 pub loop-place-smaller : goal.loop-place-smaller
 loop-place-smaller c =
     let fewer : length (left c.args.card.now c.args.batch.now c.along-place.result.rank) < length (left c.args.card.now c.args.batch.now c.loop-place.place.rank) =
-        rw c.along-place.ensures (packs_less c.loop-place.invariant.0 c.next-place.ensures c.if-rank-eq0.false c.run-more.ensures) in
+    rw c.along-place.ensures (packs_less c.loop-place.invariant.0 c.next-place.ensures c.if-rank-eq0.false c.run-more.ensures) in
     omega (arith, fewer, left_fewer c.args.card.now c.args.batch.now c.along-place.result.rank c.add_entries-packed.result.place.rank c.add_entries-packed.ensures.further)

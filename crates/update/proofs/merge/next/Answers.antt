@@ -13,7 +13,7 @@ pub returns-then-rank-eq0 : goal.returns-then-rank-eq0
 returns-then-rank-eq0 c =
     let turn : Turn c.args.card.now c.args.batch.now (record { rank = c.loop-rank.rank; old = c.loop-rank.old; addition = c.loop-rank.addition; decisions = c.loop-rank.decisions })
     c.skip-old.result c.next_addition-added.result c.lesser-rank.result =
-        record {
+    record {
       sound = facts c.args.card.now c.requires.card_value;
       in_order = c.requires.batch_value;
       skipped = c.skip-old.ensures;
@@ -27,7 +27,7 @@ pub returns-then-not-decision : goal.returns-then-not-decision
 returns-then-not-decision c =
     let turn : Turn c.args.card.now c.args.batch.now (record { rank = c.loop-rank.rank; old = c.loop-rank.old; addition = c.loop-rank.addition; decisions = c.loop-rank.decisions })
     c.skip-old.result c.next_addition-added.result c.lesser-rank.result =
-        record {
+    record {
       sound = facts c.args.card.now c.requires.card_value;
       in_order = c.requires.batch_value;
       skipped = c.skip-old.ensures;
@@ -35,7 +35,7 @@ returns-then-not-decision c =
       pair = c.lesser-rank.ensures;
     } in
     let decided_of : c.decide-decision.result ≡ decided c.args.batch.now (round_reaches (updates c.args.batch.now)) c.loop-rank.decisions c.lesser-rank.result =
-        rw c.requires.reaches_value at c.decide-decision.ensures in
+    rw c.requires.reaches_value at c.decide-decision.ensures in
     let n = c.if-rank-eq0.false in
     let i = c.loop-rank.invariant in
     let t = turn in
@@ -45,7 +45,7 @@ pub loop-rank-smaller : goal.loop-rank-smaller
 loop-rank-smaller c =
     let turn : Turn c.args.card.now c.args.batch.now (record { rank = c.loop-rank.rank; old = c.loop-rank.old; addition = c.loop-rank.addition; decisions = c.loop-rank.decisions })
     c.skip-old.result c.next_addition-added.result c.lesser-rank.result =
-        record {
+    record {
       sound = facts c.args.card.now c.requires.card_value;
       in_order = c.requires.batch_value;
       skipped = c.skip-old.ensures;
@@ -58,7 +58,7 @@ pub loop-rank-preserved : goal.loop-rank-preserved
 loop-rank-preserved c =
     let turn : Turn c.args.card.now c.args.batch.now (record { rank = c.loop-rank.rank; old = c.loop-rank.old; addition = c.loop-rank.addition; decisions = c.loop-rank.decisions })
     c.skip-old.result c.next_addition-added.result c.lesser-rank.result =
-        record {
+    record {
       sound = facts c.args.card.now c.requires.card_value;
       in_order = c.requires.batch_value;
       skipped = c.skip-old.ensures;
@@ -66,7 +66,7 @@ loop-rank-preserved c =
       pair = c.lesser-rank.ensures;
     } in
     let decided_of : c.decide-decision.result ≡ decided c.args.batch.now (round_reaches (updates c.args.batch.now)) c.loop-rank.decisions c.lesser-rank.result =
-        rw c.requires.reaches_value at c.decide-decision.ensures in
+    rw c.requires.reaches_value at c.decide-decision.ensures in
     let n = c.if-rank-eq0.false in
     let i = c.loop-rank.invariant in
     let t = turn in

@@ -22,22 +22,22 @@ returns-then-of-term c = runs_none c.requires.merges
 pub overflow_add-end : goal.overflow_add-end
 overflow_add-end c =
     let room : let m = c.args.merge in m.old.at + m.old.count ≤ length c.args.card.now =
-        let s = c.requires.merges.stands in omega (arith, positions_room s, s.ends) in
+    let s = c.requires.merges.stands in omega (arith, positions_room s, s.ends) in
     omega (arith, room, c.well_formed)
 
 pub slice_bounds-up_to-end : goal.slice_bounds-up_to-end
 slice_bounds-up_to-end c =
     let room : let m = c.args.merge in m.old.at + m.old.count ≤ length c.args.card.now =
-        let s = c.requires.merges.stands in omega (arith, positions_room s, s.ends) in
+    let s = c.requires.merges.stands in omega (arith, positions_room s, s.ends) in
     room
 
 pub returns : goal.returns
 unfolding Words
 returns c =
     let card_words : Words c.args.card.now =
-        λ i. omega (arith, c.type_inv.card i) in
+    λ i. omega (arith, c.type_inv.card i) in
     let batch_words : Words c.args.batch.now =
-        λ i. omega (arith, c.type_inv.batch i) in
+    λ i. omega (arith, c.type_inv.batch i) in
     let m = c.args.merge in
     let count : m.old.at + m.old.count - m.old.at ≡ m.old.count = omega arith in
     runs_up_to (facts _ c.requires.card_value) card_words c.requires.merges c.if-in_hand-rank.false c.requires.rank_nonzero (rw c.of_rank-pair.ensures at c.if-of-term.false) _ _

@@ -9,7 +9,7 @@ pub returns-then-rank-last : goal.returns-then-rank-last
 unfolding Words
 returns-then-rank-last c =
     let words : Words c.args.card.now =
-        λ i. omega (arith, c.type_inv.card i) in
+    λ i. omega (arith, c.type_inv.card i) in
     let k = c.requires.spends.known in
     record { spends = c.requires.spends; count = freeing_stop c.requires.spends.freeing (k.inside (omega arith)) words (rw (k.is (omega arith)) at c.if-rank-last.true) }
 
@@ -21,6 +21,6 @@ pub spent_from-requires-2 : goal.spent_from-requires-2
 unfolding Words
 spent_from-requires-2 c =
     let words : Words c.args.card.now =
-        λ i. omega (arith, c.type_inv.card i) in
+    λ i. omega (arith, c.type_inv.card i) in
     let k = c.requires.spends.known in
     record { card_value = c.requires.card_value; freeing = freeing_turn c.requires.spends.freeing (k.inside (omega arith)) words (rw (k.is (omega arith)) at c.if-rank-last.false) }
