@@ -26,7 +26,8 @@ fn with_figure(value: u64, byte: u8) -> u64
         return NO_NUMBER;
     }
     let longer = 10 * value + wide(byte - b'0');
-    if NO_NUMBER <= longer {
+    let too_large = NO_NUMBER <= longer;
+    if too_large {
         return NO_NUMBER;
     }
     longer

@@ -30,7 +30,8 @@ pub fn write_span(card: &[u32], write: u32) -> WriteSpan
     }
     let k = Configuration::of(card);
     let place = k.due_place();
-    if write == 1 {
+    let is_block = write == 1;
+    if is_block {
         return WriteSpan {
             number: 0,
             start: layout::place_start(card, place),

@@ -13,16 +13,16 @@ pub returns-then-judged-ne0 : goal.returns-then-judged-ne0
 unfolding write_span
 returns-then-judged-ne0 c = let e = c.judge-judged.ensures in rw (← e, ne_eqb c.judge-judged.result 0 c.if-judged-ne0.true)
 
-pub returns-then-write-eq1 : goal.returns-then-write-eq1
+pub returns-then-is_block : goal.returns-then-is_block
 unfolding write_span
-returns-then-write-eq1 c =
+returns-then-is_block c =
     let J : judged c.args.card.now ≡ 0 =
     sym c.judge-judged.ensures ∙ c.if-judged-ne0.false in
     let in_order : Ordered c.args.card.now c.of-k.result =
     ordered_sound (facts _ J) c.of-k.ensures in
     let due_at : c.due_place-place.result ≡ due_place c.args.card.now =
     c.due_place-place.ensures ∙ due_place_on in_order in
-    rw (c.place_start.ensures, due_at, in_order.of_size, J, c.if-write-eq1.true)
+    rw (c.place_start.ensures, due_at, in_order.of_size, J, c.if-is_block.true)
 
 pub returns-then-write-eq2 : goal.returns-then-write-eq2
 unfolding write_span
@@ -48,4 +48,4 @@ returns c =
     let J : judged c.args.card.now ≡ 0 =
     sym c.judge-judged.ensures ∙ c.if-judged-ne0.false in
     let w = c.args.write in
-    rw (J, ne_eqb w 1 c.if-write-eq1.false, ne_eqb w 2 c.if-write-eq2.false, ne_eqb w 3 c.if-write-eq3.false)
+    rw (J, ne_eqb w 1 c.if-is_block.false, ne_eqb w 2 c.if-write-eq2.false, ne_eqb w 3 c.if-write-eq3.false)
