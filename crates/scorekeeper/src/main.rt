@@ -24,11 +24,13 @@ fn read_input<R: Read>(input: &mut R, buffer: &mut [u8]) -> io::Result<usize>
     Ok(count)
 }
 
-fn main(rt: HostRuntime) -> io::Result<()> {
+// A read that fails prints nothing, and nothing is left to be done where the write fails.
+fn main(rt: HostRuntime) {
     let mut buffer = [0u8; SETTLING_BYTES];
-    let count = read_input(&mut rt.stdin(), &mut buffer)?;
-    let outcome = scores::outcome_of(&buffer[..count]);
-    let mut line = [0u8; LINE_BYTES];
-    let length = scores::put_outcome(&mut line, outcome);
-    io::writer(&rt).write_all(&line[..length])
+    if let Ok(count) = read_input(&mut rt.stdin(), &mut buffer) {
+        let outcome = scores::outcome_of(&buffer[..count]);
+        let mut line = [0u8; LINE_BYTES];
+        let length = scores::put_outcome(&mut line, outcome);
+        let _written = io::writer(&rt).write_all(&line[..length]);
+    }
 }
