@@ -47,7 +47,7 @@ impl Source {
         self.faults.push(Fault { file, line, words });
     }
 
-    // Reads the lines `NAME: DEP DEP ..`.
+    // Reads the lines `NAME: DEP DEP ..`, of a static library `NAME staticlib: DEP DEP ..`.
     fn list(&mut self, text: &str) {
         for (number, line) in (1..).zip(text.lines()) {
             let line = line.split('#').next().unwrap_or_default().trim();
@@ -58,7 +58,12 @@ impl Source {
                 self.fault("crates.txt", number, "no line of a crate".to_string());
                 continue;
             };
-            let name = name.trim().to_string();
+            let name = name.trim();
+            let name = name.strip_suffix(" staticlib").unwrap_or(name).to_string();
+            if name.contains(char::is_whitespace) {
+                self.fault("crates.txt", number, "no line of a crate".to_string());
+                continue;
+            }
             if self.crates.iter().any(|listed| listed.name == name) {
                 self.fault("crates.txt", number, format!("crate {name} stands twice"));
                 continue;
