@@ -6,7 +6,7 @@ WARNINGS = -std=c11 -Wall -Wextra -Werror
 OPTIMISE = -O2
 LIBRARY = target/staticlib/libgameindex.a
 HEADER = include/gameindex.h
-SOURCES = crates.txt $(shell find crates -name out -prune -o \( -name '*.rt' -o -name '*.antt' \) -print)
+SOURCES = crates.txt $(shell find crates -regex 'crates/[^/]*/out' -prune -o \( -name '*.rt' -o -name '*.antt' \) -print)
 HOST_FILES = $(wildcard host/*.c)
 HOST_HEADERS = $(wildcard host/*.h)
 BENCH_FILES = bench/bench.c bench/bench.h
