@@ -203,7 +203,7 @@ impl Parser<'_> {
             self.list(">", |parser| {
                 if parser.now.token != Token::Lifetime {
                     names.push(parser.name()?);
-                    return Ok(());
+                    return parser.bounds();
                 }
                 parser.advance()?;
                 if parser.take(":")? {
@@ -216,6 +216,19 @@ impl Parser<'_> {
             })?;
         }
         Ok(names)
+    }
+
+    // The bounds of a type parameter: whose methods are called through them is not known.
+    fn bounds(&mut self) -> Outcome<()> {
+        let line = self.line();
+        if self.take(":")? {
+            self.mention(line, Mention::Refused("a bound of a type parameter"));
+            self.path(true)?;
+            while self.take("+")? {
+                self.path(true)?;
+            }
+        }
+        Ok(())
     }
 
     fn declared(&mut self) -> Outcome<Declared> {
