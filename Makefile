@@ -1,12 +1,12 @@
 # The game index: build, run, test. `make` alone lists the targets.
-# All that is built goes below target/, which git ignores.
+# All that is built goes below target/ and, by rt, to out/ in each crate, which git ignores.
 
 CC = gcc
 WARNINGS = -std=c11 -Wall -Wextra -Werror
 OPTIMISE = -O2
 LIBRARY = target/staticlib/libgameindex.a
 HEADER = include/gameindex.h
-SOURCES = crates.txt $(shell find crates -name '*.rt' -o -name '*.antt')
+SOURCES = crates.txt $(shell find crates -regex 'crates/[^/]*/out' -prune -o \( -name '*.rt' -o -name '*.antt' \) -print)
 HOST_FILES = $(wildcard host/*.c)
 HOST_HEADERS = $(wildcard host/*.h)
 BENCH_FILES = bench/bench.c bench/bench.h
@@ -95,21 +95,22 @@ fuzz-tools:
 	{ echo 'make fuzz needs clang and its runtime: apt-get install clang libclang-rt-dev (or libclang-rt-14-dev)'; false; }
 
 fmt:
-	rt fmt
+	for crate in crates/*/; do (cd $$crate && rt fmt) || exit 1; done
 	cd tests && cargo fmt
 	cd tests/reach && cargo fmt
 	clang-format -i $(C_FILES)
 
 clean:
-	rm -rf target tests/target tests/reach/target
+	rm -rf target tests/target tests/reach/target crates/*/out
 
-# The library of C functions, proved before it is written.
+# The library of C functions, proved before it is written: over what rt ci proved of these files, or else by rt lib.
 $(LIBRARY): $(SOURCES)
-	rt staticlib gameindex
+	.ci/library
 
-# The scorekeepers' program, proved before it is linked.
+# The scorekeepers' program, proved before it is linked, and run once.
 target/bin/scorekeeper: $(SOURCES)
-	rt check scorekeeper
+	cd crates/scorekeeper && rt run <stdin
+	install -D crates/scorekeeper/out/scorekeeper $@
 
 target/gamecard: $(HOST_FILES) $(HOST_HEADERS) $(HEADER) $(LIBRARY)
 	$(CC) $(WARNINGS) $(OPTIMISE) -Iinclude -o $@ $(HOST_FILES) $(LIBRARY)

@@ -46,6 +46,7 @@ function find_checks(s,    name) {
 function calls(name,    s, check, n) {
     for (check in makes_checks) {
         s = text[name]
+        if (!index(s, check)) continue
         if (name ~ /\.sh$/) n += gsub("[\n;{] *" check " ", "&", s)
         else {
             n += gsub("[^A-Za-z0-9_]" check "\\(", "&", s)

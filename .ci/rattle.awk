@@ -1,9 +1,14 @@
 # Reads Rattle source files, named below crates/, and writes with comments dropped and
 # whitespace folded:
 #   contracts  of each public function its path, then its signature and each clause
-#   texts      FILE, NAME, TEXT between tabs: structs, enums, public constants, use lines
+#   texts      FILE, NAME, TEXT between tabs: structs, enums, public constants and those that a
+#              text here names, use lines
 #   faults     public functions with a requires or without an ensures, and what it cannot read
 # A function is public if it is `pub` or callable from C. Prints the files that have one.
+#
+# A clause is `requires {..}` or `ensures {..}`, or has a name before its brace. Of attributes it
+# knows those for C, derives of the library's traits, which stand with their item, and `tactic`,
+# which says how a proof is sought and nothing of what is proved, and is dropped.
 #
 # Quotes stand in three forms and in no other: extern "C", a byte as b'0', a lifetime as 'a. So no
 # text can hold what looks like a comment, a brace or another text.
@@ -12,10 +17,13 @@ BEGIN {
     byte = "b'([^'\\\\]|\\\\[nt0\\\\']|\\\\x[0-9a-f][0-9a-f])'"
     quoted = "extern \"C\"|" byte "|'[a-z_]+"
     odd = "[\"'`\\\\]"
+    tactic = "#!?\\[tactic\\(([A-Za-z0-9_:, -]|\\(|\\))*\\)\\]"
+    derives = "(Clone|Copy|Drop|Debug|Default|PartialEq|Eq|PartialOrd|Ord|Hash)"
+    known_attribute = "^#\\[(unsafe\\(no_mangle\\)|repr\\(C\\)|derive\\(" derives "(, " derives ")*\\))\\]"
 }
 FNR == 1 { if (file != "") read_file(); file = FILENAME; rest = "" }
 { rest = rest $0 "\n" }
-END { read_file() }
+END { read_file(); keep_what_is_named() }
 
 function fault(words) { print words >faults }
 
@@ -68,10 +76,11 @@ function read_function(    head, path, body) {
     while (match(rest, /[{;]/)) {
         if (substr(rest, RSTART, 1) == ";") { head = head take(RSTART); continue }
         head = head take(RSTART - 1)
-        if (!match(head, / (requires|ensures|ghost) $/)) break
+        if (!match(head, / (requires|ensures)( [a-z_][a-z0-9_]*)? $/)) break
         head = substr(head, 1, RSTART - 1) "\n    " substr(head, RSTART + 1) statement(1)
     }
     body = statement(1)
+    gsub(tactic, "", body)
     if (body ~ /#|[^A-Za-z0-9_](fn|mod|impl|trait|extern|macro_rules)[^A-Za-z0-9_]/) fault(file ": an item inside a function: " substr(body, 1, 80))
     sub(/ +$/, "", head)
     sub(/\( /, "(", head)
@@ -94,25 +103,76 @@ function keep(name, text) {
     kept = kept " " text
 }
 
-function read_item(text,    name) {
+# The name of an item, with its kind.
+function name_of(text,    name) {
     match(text, /(struct|enum|const|static|type) [A-Za-z0-9_]+/)
     name = substr(text, RSTART, RLENGTH)
     sub(/ /, " " inside[depth_of], name)
-    keep(name, attributes text)
+    return name
+}
+
+function read_item(text) { keep(name_of(text), attributes text) }
+
+# A constant or an alias that is not public is kept where a text that is kept names it.
+function read_private(text) {
+    privates++
+    private_folder[privates] = folder
+    private_name[privates] = name_of(text)
+    private_text[privates] = attributes text
+}
+function keep_what_is_named(    i, name, again) {
+    do {
+        again = 0
+        kept = ""
+        for (i = 1; i <= privates; i++) {
+            name = private_name[i]
+            sub(/^.*[: ]/, "", name)
+            if (private_text[i] == "" || all_kept !~ "[^A-Za-z0-9_]" name "([^A-Za-z0-9_]|$)") continue
+            folder = private_folder[i]
+            keep(private_name[i], private_text[i])
+            private_text[i] = ""
+            again = 1
+        }
+        all_kept = all_kept kept
+    } while (again)
+}
+
+# A use line with a group, as lines with one name each. A group stands behind `::`.
+function ungrouped(line,    start, before, part, n, i, depth, c, s) {
+    start = index(line, "{")
+    if (!start) return line ";"
+    before = substr(line, 1, start - 1)
+    for (i = start; i <= length(line); i++) {
+        c = substr(line, i, 1)
+        if (c == "{" && !depth++) continue
+        if (c == "}" && !--depth) break
+        if (c == "," && depth == 1) n++
+        else part[n + 0] = part[n + 0] c
+    }
+    if (before !~ /::$/ || substr(line, i) != "}") { fault(file ": a use line that is not read: " line); return line ";" }
+    for (i = 0; i <= n; i++) {
+        c = part[i]
+        gsub(/^[ \001]+|[ \001]+$/, "", c)
+        if (c != "") s = s ungrouped(before c)
+    }
+    return s
 }
 
 # The mod lines, and of the use lines those that bring a name of a text that is kept.
-function that_matter(uses,    line, n, i, name, s) {
+function that_matter(uses,    all, line, n, i, name, s) {
     n = split(uses, line, ";")
+    for (i = 1; i < n; i++) all = all ungrouped(line[i])
+    n = split(all, line, ";")
     for (i = 1; i < n; i++) {
         name = line[i]
         sub(/^.*[: ]/, "", name)
-        if (line[i] !~ /^use / || name !~ /^[A-Za-z0-9_]+$/ || kept ~ "[^A-Za-z0-9_]" name "([^A-Za-z0-9_]|$)") s = s line[i] ";"
+        if (line[i] !~ /^use / || name !~ /^[A-Za-z0-9_]+$/ || name == "self" || kept ~ "[^A-Za-z0-9_]" name "([^A-Za-z0-9_]|$)") s = s line[i] ";"
     }
     return s
 }
 
 function open_block(head) {
+    if (head ~ /^impl.* for /) fault(file ": an impl of a trait, which is not read: " substr(head, 1, 80))
     gsub(/<[^<>]*>|^impl|^(pub )?mod|[ {\001]/, "", head)
     inside[depth_of + 1] = inside[depth_of] head "::"
     depth_of++
@@ -135,20 +195,22 @@ function read_file(    uses, ghost_uses, pub) {
     inside[0] = attributes = kept = ""
     strip_comments()
     while (sub(/^[ \001]+/, "", rest) || rest != "") {
-        if (match(rest, /^#\[(no_mangle|repr\(C\))\]/)) { attributes = attributes take(RLENGTH) " "; continue }
+        if (match(rest, "^" tactic)) { take(RLENGTH); continue }
+        if (match(rest, known_attribute)) { attributes = attributes take(RLENGTH) " "; continue }
         if (rest == "") break
         if (rest ~ pub "(const |unsafe |extern \"C\" )*fn ") read_function()
         else if (rest ~ pub "(struct|enum) ") read_item(statement(1))
         else if (rest ~ /^pub (const|static|type) /) read_item(statement(0))
-        else if (rest ~ pub "(const|static|type) ") statement(0)
-        else if (rest ~ /^ghost use /) ghost_uses = ghost_uses statement(0)
-        else if (rest ~ pub "(use [^;]*|mod [a-z0-9_]+);") uses = uses statement(0)
+        else if (rest ~ pub "(const|static|type) ") read_private(statement(0))
+        else if (rest ~ /^ghost use /) ghost_uses = ghost_uses inside[depth_of] statement(0)
+        else if (rest ~ pub "(use [^;]*|mod [a-z0-9_]+);") uses = uses inside[depth_of] statement(0)
         else if (match(rest, pub "(mod|impl)[ <][^{};]*\\{")) open_block(take(RLENGTH))
         else if (depth_of && rest ~ /^\}/) { take(1); depth_of-- }
         else { fault(file ": cannot read: " substr(rest, 1, 80)); return }
         attributes = ""
     }
     if (depth_of) fault(file ": its braces do not match")
+    all_kept = all_kept kept
     uses = that_matter(uses)
     if (uses != "") keep("use lines", uses)
     if (!functions) return

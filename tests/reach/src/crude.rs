@@ -22,12 +22,17 @@ fn tokens(text: &str) -> Vec<Token> {
     tokens
 }
 
-// The names that a file's text gives others by `as`.
+// The names that a file's text gives others by `as`, in lines and groups of `use`.
 fn renamed(text: &str) -> BTreeMap<String, String> {
-    let uses = text
-        .lines()
-        .filter(|line| line.trim_start().starts_with("use "));
-    let tokens: Vec<Token> = uses.flat_map(tokens).collect();
+    let mut tokens: Vec<Token> = Vec::new();
+    let mut in_use = false;
+    for line in text.lines() {
+        in_use = in_use || line.trim_start().starts_with("use ");
+        if in_use {
+            tokens.extend(self::tokens(line));
+        }
+        in_use = in_use && !line.contains(';');
+    }
     let mut names = BTreeMap::new();
     for three in tokens.windows(3) {
         if let [Token::Name(from), Token::Name(word), Token::Name(to)] = three {

@@ -130,11 +130,11 @@ impl Parser<'_> {
                 self.expect("]")?;
             } else if self.take(".")? {
                 self.field_or_method()?;
+            } else if self.take("?")? {
+                // It calls what turns one error into another.
+                self.mention(line, Mention::Refused("an operator ?"));
             } else {
-                return match self.at("?") {
-                    true => self.unknown("the end of an expression"),
-                    false => Ok(()),
-                };
+                return Ok(());
             }
         }
     }

@@ -8,6 +8,7 @@ use crate::tree::{Constant, Declared, Function, Import, Item, Mention, Path};
 // The items of a file.
 pub fn parse(file: &str, text: &str) -> Outcome<Vec<Item>> {
     let mut parser = Parser::new(file, text)?;
+    parser.file_attributes()?;
     let mut items = Vec::new();
     while parser.now.token != Token::End {
         items.extend(parser.item()?);
@@ -51,12 +52,62 @@ impl Parser<'_> {
     fn attributes(&mut self) -> Outcome<()> {
         while self.take("#")? {
             self.expect("[")?;
-            if !self.take_word("no_mangle")? {
+            if self.at_word("tactic") {
+                self.tactic()?;
+            } else if self.take_word("derive")? {
+                self.derived()?;
+            } else if self.take_word("unsafe")? {
+                self.expect("(")?;
+                if !self.take_word("no_mangle")? {
+                    return self.unknown("an attribute that is known");
+                }
+                self.expect(")")?;
+            } else {
                 return self.unknown("an attribute that is known");
             }
             self.expect("]")?;
         }
         Ok(())
+    }
+
+    // The attributes of a whole file, at its head.
+    fn file_attributes(&mut self) -> Outcome<()> {
+        while self.at("#") && self.ahead()? == Token::Symbol("!") {
+            self.advance()?;
+            self.advance()?;
+            self.expect("[")?;
+            if !self.at_word("tactic") {
+                return self.unknown("an attribute that is known");
+            }
+            self.tactic()?;
+            self.expect("]")?;
+        }
+        Ok(())
+    }
+
+    // `tactic(..)`, which says how a proof is sought and nothing of the code.
+    fn tactic(&mut self) -> Outcome<()> {
+        self.advance()?;
+        if !self.at("(") {
+            return self.unknown("\"(\"");
+        }
+        self.pass(lex::pass_tactic)
+    }
+
+    // What is derived, behind `derive`: that a value may be copied, or let go. Other derives would
+    // make methods.
+    fn derived(&mut self) -> Outcome<()> {
+        self.expect("(")?;
+        if !self.take_word("Drop")? {
+            if !self.take_word("Clone")? {
+                return self.unknown("a derive that is known");
+            }
+            self.expect(",")?;
+            if !self.take_word("Copy")? {
+                return self.unknown("a derive that is known");
+            }
+        }
+        self.expect(")")
     }
 
     fn visibility(&mut self) -> Outcome<()> {
@@ -152,7 +203,7 @@ impl Parser<'_> {
             self.list(">", |parser| {
                 if parser.now.token != Token::Lifetime {
                     names.push(parser.name()?);
-                    return Ok(());
+                    return parser.bounds();
                 }
                 parser.advance()?;
                 if parser.take(":")? {
@@ -165,6 +216,19 @@ impl Parser<'_> {
             })?;
         }
         Ok(names)
+    }
+
+    // The bounds of a type parameter: whose methods are called through them is not known.
+    fn bounds(&mut self) -> Outcome<()> {
+        let line = self.line();
+        if self.take(":")? {
+            self.mention(line, Mention::Refused("a bound of a type parameter"));
+            self.path(true)?;
+            while self.take("+")? {
+                self.path(true)?;
+            }
+        }
+        Ok(())
     }
 
     fn declared(&mut self) -> Outcome<Declared> {
@@ -292,6 +356,9 @@ impl Parser<'_> {
         function.output = self.mentioned();
         while self.at_word("requires") || self.at_word("ensures") {
             self.advance()?;
+            if matches!(self.now.token, Token::Name(_)) {
+                self.name()?;
+            }
             if !self.at("{") {
                 return self.unknown("\"{\"");
             }

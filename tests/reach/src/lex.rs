@@ -274,6 +274,24 @@ pub fn pass_clause(text: &str, from: Place) -> Result<Place, Refusal> {
     Ok(reader.place)
 }
 
+// Passes the words of a `tactic` attribute from behind its opening bracket to behind the closing
+// one. They are names, in brackets and between commas.
+pub fn pass_tactic(text: &str, from: Place) -> Result<Place, Refusal> {
+    let mut reader = Reader { text, place: from };
+    let mut depth = 1;
+    while depth > 0 {
+        match reader.advance() {
+            None => return reader.refuse("an attribute does not end"),
+            Some('(') => depth += 1,
+            Some(')') => depth -= 1,
+            Some(' ' | '\n' | ',' | ':' | '-') => {}
+            Some(c) if continues_name(c) => {}
+            Some(c) => return reader.refuse(&format!("no word of a tactic: {c:?}")),
+        }
+    }
+    Ok(reader.place)
+}
+
 // Passes a `ghost use` line to behind its semicolon.
 pub fn pass_line(text: &str, from: Place) -> Result<Place, Refusal> {
     let mut reader = Reader { text, place: from };

@@ -39,7 +39,7 @@ fn main() -> ExitCode {
     println!("planted sources:");
     planted::run(&own.join("planted"), &mut checks);
     println!();
-    let source = Source::read(&folder, ".rt");
+    let source = Source::read(&folder, "crates.txt", ".rt");
     let text = fs::read_to_string(own.join("roots.txt")).unwrap_or_default();
     let roots: Vec<String> = text.lines().map(String::from).collect();
     let report = reach::analyse(&source, &roots);

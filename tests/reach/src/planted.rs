@@ -1,5 +1,6 @@
 // The planted sources: small trees with something in them that must be found, or with what looks
-// like it and must not be. Their files end in `.rt.txt`, since a file `.rt` would have to be proved.
+// like it and must not be. Their files end in `.rt.txt`, since a file `.rt` would have to be proved,
+// and their list of crates is `listed.txt`, since a second `crates.txt` would be refused.
 // The file `expect` of each has lines
 //   root PATH            a root
 //   reached PATH         a function that is reached; where there is one, they must be all
@@ -42,7 +43,10 @@ pub fn run(folder: &Path, checks: &mut Checks) {
 fn try_one(folder: &Path) -> Result<String, String> {
     let text = fs::read_to_string(folder.join("expect")).map_err(|error| error.to_string())?;
     let expected = read(&text)?;
-    let report = reach::analyse(&Source::read(folder, ".rt.txt"), &expected.roots);
+    let report = reach::analyse(
+        &Source::read(folder, "listed.txt", ".rt.txt"),
+        &expected.roots,
+    );
     compare(&expected, &report)
 }
 

@@ -22,19 +22,19 @@ pub struct Source {
 }
 
 impl Source {
-    // Reads the files with an ending, `.rt`, or another where they are no part of the product.
-    pub fn read(folder: &Path, ending: &str) -> Source {
+    // Reads the list of crates, `crates.txt`, and the files with an ending, `.rt`, or others where they are no part of the product.
+    pub fn read(folder: &Path, list: &str, ending: &str) -> Source {
         let mut source = Source {
             crates: Vec::new(),
             texts: BTreeMap::new(),
             faults: Vec::new(),
         };
-        match fs::read_to_string(folder.join("crates.txt")) {
-            Ok(text) => source.list(&text),
-            Err(error) => source.fault("crates.txt", 0, format!("cannot be read: {error}")),
+        match fs::read_to_string(folder.join(list)) {
+            Ok(text) => source.list(list, &text),
+            Err(error) => source.fault(list, 0, format!("cannot be read: {error}")),
         }
         if source.crates.is_empty() {
-            source.fault("crates.txt", 0, "lists no crate".to_string());
+            source.fault(list, 0, "lists no crate".to_string());
         }
         for listed in source.crates.clone() {
             source.read_folder(folder, &format!("crates/{}/src", listed.name), ending);
@@ -47,20 +47,25 @@ impl Source {
         self.faults.push(Fault { file, line, words });
     }
 
-    // Reads the lines `NAME: DEP DEP ..`.
-    fn list(&mut self, text: &str) {
+    // Reads the lines `NAME: DEP DEP ..`, of a static library `NAME staticlib: DEP DEP ..`.
+    fn list(&mut self, list: &str, text: &str) {
         for (number, line) in (1..).zip(text.lines()) {
             let line = line.split('#').next().unwrap_or_default().trim();
             if line.is_empty() {
                 continue;
             }
             let Some((name, dependencies)) = line.split_once(':') else {
-                self.fault("crates.txt", number, "no line of a crate".to_string());
+                self.fault(list, number, "no line of a crate".to_string());
                 continue;
             };
-            let name = name.trim().to_string();
+            let name = name.trim();
+            let name = name.strip_suffix(" staticlib").unwrap_or(name).to_string();
+            if name.contains(char::is_whitespace) {
+                self.fault(list, number, "no line of a crate".to_string());
+                continue;
+            }
             if self.crates.iter().any(|listed| listed.name == name) {
-                self.fault("crates.txt", number, format!("crate {name} stands twice"));
+                self.fault(list, number, format!("crate {name} stands twice"));
                 continue;
             }
             let dependencies = dependencies.split_whitespace().map(String::from).collect();
