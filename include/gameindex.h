@@ -14,7 +14,7 @@
  *
  * Memory: a call keeps nothing and allocates nothing. It uses what it is lent and its
  * stack: gi_step, gi_forecast and gi_scores up to some 160 KB, the others less than
- * 1 KB, as measured on x86-64. Of the C library it needs memcpy and memset.
+ * 1 KB, as measured on x86-64. Of the C library it needs no more than memcpy and memset.
  *
  * Threads: there is no state behind the calls. Any of them may run at the same time as
  * long as no memory that one of them may write is lent to another; so many threads can
