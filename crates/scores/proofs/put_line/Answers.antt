@@ -18,7 +18,10 @@ overflow_add-result c = record { fits = omega (arith, c.figure_count-end.ensures
 pub returns : goal.returns
 returns c =
     let count = c.figure_count-end.ensures in
-    record { value = (
+    record {
+      value = (
         omega (arith, count, line_length c.args.letter c.args.n),
         line_put c.args.line.now c.args.letter c.args.n _ c.put_number-arg-1.given.0.1 (omega arith) c.put_number.ensures (ap (λ k. 2 + k) count),
-      ); upper_bound = omega (arith, count, decimal_few c.args.n (omega arith)) }
+      );
+      upper_bound = omega (arith, count, decimal_few c.args.n (omega arith));
+    }
