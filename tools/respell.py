@@ -28,7 +28,7 @@ FALLS = {
     'remains-next': 'remains_next_law', 'twins-from': 'twins_from_law', 'sorted-words': 'sorted_words_law',
     'step-number': 'step_number_law', 'next-write': 'next_write_law', 'block_size': 'block_size_law',
     'reads_on': 'reads_on_law', 'has_room': 'has_room_law', 'field-of': 'field_of_law', 'goes_on': 'goes_on_law',
-    'untouched-stays': 'untouched_stays_law', 'lookup-number': 'lookup_number_law',
+    'untouched-stays': 'untouched_stays_law', 'lookup-number': 'lookup_number_law', 'run-at': 'run_at_law',
 }
 # Crate pins writes claims out once more: there these are called so.
 WRITTEN_OUT = (
@@ -70,18 +70,29 @@ def declared(path):
     yield from re.findall(rf'(?m)^(?:pub )?ruleset ({WORD})', text)
 
 
-def table():
-    names = set()
-    for path in texts('crates/*/specs/**/*.antt', 'crates/*/proofs/**/*.antt'):
-        names.update(declared(path))
+def inner(path):
+    """The private names inside a file's definitions: they are turned in that file alone, since a library may have the same."""
+    text = re.sub(r'--[^\n]*', '', read(path))
+    names = re.findall(rf'(?m)^ +({WORD})(?: \{{[^{{}}\n]*\}})*\s+:(?!=)', text)
+    return {} if is_made(path) else spelled(set(names))
+
+
+def spelled(names):
     new = {}
     for name in names:
         if name in FALLS:
             new[name] = FALLS[name]
         elif '-' in name or re.match(r'[a-z]+\w*[a-z0-9][A-Z]', name):
-            spelled = snake(name)
-            new[name] = spelled[0].lower() + spelled[1:]
+            turned = snake(name)
+            new[name] = turned[0].lower() + turned[1:]
     return {a: b for a, b in new.items() if a != b}
+
+
+def table():
+    names = set()
+    for path in texts('crates/*/specs/**/*.antt', 'crates/*/proofs/**/*.antt'):
+        names.update(declared(path))
+    return spelled(names)
 
 
 def of_crate(new, path):
@@ -140,7 +151,7 @@ def main():
     for path in texts('crates/*/specs/**/*.antt', 'crates/*/proofs/**/*.antt'):
         finals.update(n for n in declared(path) if n not in new)
     kinds = [
-        (texts('crates/*/specs/**/*.antt', 'crates/*/proofs/**/*.antt'), lambda t, n, p: turn_words(t, n, is_made(p))),
+        (texts('crates/*/specs/**/*.antt', 'crates/*/proofs/**/*.antt'), lambda t, n, p: turn_words(t, inner(p) | n, is_made(p))),
         (texts('crates/*/src/**/*.rt'), lambda t, n, p: turn_rust(t, n)),
         (texts('crates/*/must-fail/*.edit'), lambda t, n, p: turn_edit(t, n, finals)),
         (texts('README.md', 'docs/**/*.md'), lambda t, n, p: turn_spans(t, n)),

@@ -78,19 +78,19 @@ module _ {b : List ℕ} {x : ℕ} {k : Cursor} (w : Words b) (f : Follows b x k)
 
   -- a pair behind the pair, with the next record starting above it: no further record is passed up to it
   module _ (y : ℕ) (l : x < y) (ahead : next < length b / 5 → y < rank (record_at b next).term (record_at b next).from) where
-    asked-there : asked b y ≡ k.passed
-    asked-there = sym (f.passes y (omega arith)) ∙ passed_here b k.passed y (starting_none b next y ahead)
+    asked_there : asked b y ≡ k.passed
+    asked_there = sym (f.passes y (omega arith)) ∙ passed_here b k.passed y (starting_none b next y ahead)
 
     asked_here : asked b x ≡ k.passed
     asked_here = sym (f.passes x (omega arith)) ∙ passed_here b k.passed x (starting_none b next x (λ m. omega (arith, ahead m)))
 
-    not-added : any_update (adds y) us ≡ false
-    not-added =
+    not_added : any_update (adds y) us ≡ false
+    not_added =
         let a : (asked b x).added ≤ x = unfold asked passed_to behind in added_most us 0 x (omega arith) in
-        sym (asked_facts b y e (omega arith)).1 ∙ rw asked-there (ne_eqb y k.passed.added (omega (arith, rw asked_here at a)))
+        sym (asked_facts b y e (omega arith)).1 ∙ rw asked_there (ne_eqb y k.passed.added (omega (arith, rw asked_here at a)))
 
-    not-removed : k.passed.reach < x → any_update (covers 2 y) us ≡ false
-    not-removed low = sym (asked_facts b y e (omega arith)).0 ∙ rw asked-there (lt-leb y k.passed.reach (omega arith))
+    not_removed : k.passed.reach < x → any_update (covers 2 y) us ≡ false
+    not_removed low = sym (asked_facts b y e (omega arith)).0 ∙ rw asked_there (lt-leb y k.passed.reach (omega arith))
 
   -- a pair of the same term up to where the next record starts
   ahead_of : (y : ℕ) → x < y → term y ≡ term x → position y ≤ before_record b next x → next < length b / 5 → y < rank (record_at b next).term (record_at b next).from
@@ -107,9 +107,9 @@ module _ {b : List ℕ} {x : ℕ} {k : Cursor} (w : Words b) (f : Follows b x k)
           omega (arith, leb-false (rank (record_at b next).term (record_at b next).from) x p, eqb-false (record_at b next).term (term x) q, w (next * 5 + 2))
 
   -- with no rounds none is annulled
-  no-rounds : (y : ℕ) → eqb (length (round_reaches us)) 0 ≡ true → any_update (covers 3 (position y)) us ≡ false
+  no_rounds : (y : ℕ) → eqb (length (round_reaches us)) 0 ≡ true → any_update (covers 3 (position y)) us ≡ false
   unfolding reached
-  no-rounds y p = sym (rounds_reached us (formed_updates b e) (in_order b e).ordered 0 (position y) (omega arith)) ∙ rw none
+  no_rounds y p = sym (rounds_reached us (formed_updates b e) (in_order b e).ordered 0 (position y) (omega arith)) ∙ rw none
     where
       none : begun (starts us) (length (round_reaches us)) 0 (position y) ≡ 0
       none = omega (arith, begun_most (starts us) (length (round_reaches us)) 0 (position y), eqb-true (length (round_reaches us)) 0 p)
@@ -120,7 +120,7 @@ module _ {b : List ℕ} {x : ℕ} {k : Cursor} (w : Words b) (f : Follows b x k)
   quiet_behind y l = go (eqb (length (round_reaches us)) 0) refl (leb x k.passed.reach) refl (leb (length b / 5) next) refl
     where
       is : eqb (length (round_reaches us)) 0 ≡ true → k.passed.reach < x → (next < length b / 5 → y < rank (record_at b next).term (record_at b next).from) → Untouched us y
-      is r low a = record { kept = any_removes y us ∙ rw (not-removed y l a low, no-rounds y r); absent = not-added y l a }
+      is r low a = record { kept = any_removes y us ∙ rw (not_removed y l a low, no_rounds y r); absent = not_added y l a }
 
       go : (r : Bool) → eqb (length (round_reaches us)) 0 ≡ r → (s : Bool) → leb x k.passed.reach ≡ s → (t : Bool) → leb (length b / 5) next ≡ t →
           y < cond (not r) 0 (cond s 0 (cond t 18446744073709551615 (rank (record_at b next).term (record_at b next).from))) → Untouched us y
@@ -137,10 +137,10 @@ module _ {b : List ℕ} {x : ℕ} {k : Cursor} (w : Words b) (f : Follows b x k)
     abbrev sofar : ℕ
     sofar = begun (starts us) rounds k.begun (position x)
 
-    not-annulled : (z : ℕ) → position y ≤ before_round (starts us) (round_reaches us) rounds k.begun (position x) z →
+    not_annulled : (z : ℕ) → position y ≤ before_round (starts us) (round_reaches us) rounds k.begun (position x) z →
         (position y ≤ z) × (any_update (covers 3 (position y)) us ≡ false)
     unfolding before_round reached
-    not-annulled z = go (reached (round_reaches us) sofar (position x)) refl (leb rounds sofar) refl (ltb z (get_or (starts us) sofar 0)) refl
+    not_annulled z = go (reached (round_reaches us) sofar (position x)) refl (leb rounds sofar) refl (ltb z (get_or (starts us) sofar 0)) refl
       where
         sought : reached (round_reaches us) (begun (starts us) rounds sofar (position y)) (position y) ≡ any_update (covers 3 (position y)) us
         sought = rounds_reached us (formed_updates b e) (in_order b e).ordered sofar (position y) (omega arith)
@@ -178,11 +178,11 @@ module _ {b : List ℕ} {x : ℕ} {k : Cursor} (w : Words b) (f : Follows b x k)
         is : k.passed.reach < x → position y ≤ before_record b next x → any_update (covers 3 (position y)) us ≡ false → Untouched us y
         is low z n =
             let a = ahead_of y l t z in
-            record { kept = any_removes y us ∙ rw (not-removed y l a low, n); absent = not-added y l a }
+            record { kept = any_removes y us ∙ rw (not_removed y l a low, n); absent = not_added y l a }
 
         go : (s : Bool) → leb x k.passed.reach ≡ s → (r : Bool) → eqb rounds 0 ≡ r →
             position y ≤ cond s 0 (cond r (before_record b next x) (before_round (starts us) (round_reaches us) (min rounds (length b / 5)) k.begun (position x) (before_record b next x))) →
             Untouched us y
         go true p r q z = absurd (omega arith)
-        go false p true q z = is (leb-false x k.passed.reach p) z (no-rounds y q)
-        go false p false q z = let n = not-annulled (before_record b next x) (rw most at z) in is (leb-false x k.passed.reach p) n.0 n.1
+        go false p true q z = is (leb-false x k.passed.reach p) z (no_rounds y q)
+        go false p false q z = let n = not_annulled (before_record b next x) (rw most at z) in is (leb-false x k.passed.reach p) n.0 n.1

@@ -103,16 +103,16 @@ pub rounds_reached :
 unfolding reached
 rounds_reached us f o j p l = go (begun (starts us) (length (round_reaches us)) j p) refl
   where
-    so-many : length (starting_to p us) ≡ begun (starts us) (length (round_reaches us)) j p
-    so-many = starting_begun us f o j p l
+    so_many : length (starting_to p us) ≡ begun (starts us) (length (round_reaches us)) j p
+    so_many = starting_begun us f o j p l
 
     above_zero : (i : ℕ) → length (starting_to p us) ≡ suc i → (q : ℕ) → p ≡ q → leb p 0 ≡ false
     above_zero i e zero z = absurd (let n : length (starting_to 0 us) ≡ suc i = rw z at e in omega (arith, none_low us f))
     above_zero i e (suc q) z = lt-leb p 0 (omega arith)
 
     go : (g : ℕ) → begun (starts us) (length (round_reaches us)) j p ≡ g → reached (round_reaches us) g p ≡ any_update (covers 3 p) us
-    go zero e = sym (none_covers 3 us p o (so-many ∙ e))
-    go (suc i) e = rw (begun_reach us f o j p l i e, reaches 3 us p 0 0 o, above_zero i (so-many ∙ e) p refl)
+    go zero e = sym (none_covers 3 us p o (so_many ∙ e))
+    go (suc i) e = rw (begun_reach us f o j p l i e, reaches 3 us p 0 0 o, above_zero i (so_many ∙ e) p refl)
 
 -- of records that start at or below a pair those that reach to it are those that cover it
 pub reaching : (us : List Update) (x k : ℕ) → falls k us ≡ false → latest (reaches_to x) (starting_to x us) ≡ latest (covers 2 x) us

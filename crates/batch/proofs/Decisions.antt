@@ -182,27 +182,27 @@ module _ {b : List ℕ} {k : ℕ} {cursor : Cursor} (f : Follows b k cursor) (x 
   abbrev hand : Latest
   hand = (passing b cursor x).latest
 
-  asked-next : (asked b x).next ≡ length (starting_to x us)
-  asked-next = unfold asked passed_to behind in omega arith
+  asked_next : (asked b x).next ≡ length (starting_to x us)
+  asked_next = unfold asked passed_to behind in omega arith
 
-  asked-removals : (asked b x).removals ≡ removals_of 0 0 (starting_to x us)
-  asked-removals = unfold asked passed_to behind in refl
+  asked_removals : (asked b x).removals ≡ removals_of 0 0 (starting_to x us)
+  asked_removals = unfold asked passed_to behind in refl
 
   passed_first : take cursor.passed.next us ++ starting_to x (drop cursor.passed.next us) ≡ starting_to x us
   unfolding passed_to behind
   passed_first =
-      sym (take_further cursor.passed.next us x) ∙ (ap (λ n. take n us) (ap (λ p. p.next) (f.passes x h) ∙ asked-next) ∙ take_starting us x)
+      sym (take_further cursor.passed.next us x) ∙ (ap (λ n. take n us) (ap (λ p. p.next) (f.passes x h) ∙ asked_next) ∙ take_starting us x)
 
-  serves-hand : Serves (λ y. latest (reaches_to y) (starting_to x us)) x hand
+  serves_hand : Serves (λ y. latest (reaches_to y) (starting_to x us)) x hand
   unfolding passing
-  serves-hand =
+  serves_hand =
       serves_same (λ y. ap (latest (reaches_to y)) (sym passed_first) ∙ latest_append (reaches_to y) (take cursor.passed.next us) _)
       (serves_further _ (λ y. latest (reaches_to y) (take cursor.passed.next us)) x cursor.latest
       (follows_later f h).serves)
 
-  serves-renewed : (a : ℕ) → Serves (λ y. latest (reaches_to y) (starting_to x us)) x (renewed us (removals_of 0 0 (starting_to x us)) hand x a)
+  serves_renewed : (a : ℕ) → Serves (λ y. latest (reaches_to y) (starting_to x us)) x (renewed us (removals_of 0 0 (starting_to x us)) hand x a)
   unfolding renewed
-  serves-renewed a = go (ltb a hand.arrival && ltb hand.reach x)
+  serves_renewed a = go (ltb a hand.arrival && ltb hand.reach x)
     where
       n : ℕ
       n = removals_of 0 0 (starting_to x us)
@@ -214,7 +214,7 @@ module _ {b : List ℕ} {k : ℕ} {cursor : Cursor} (f : Follows b k cursor) (x 
 
       go : (t : Bool) → Serves (λ y. latest (reaches_to y) (starting_to x us)) x (cond t (latest_of x none (take n us)) hand)
       go true = anew
-      go false = serves-hand
+      go false = serves_hand
 
 -- before the first question
 pub follows_start : (b : List ℕ) (k : ℕ) → Follows b k start
@@ -227,7 +227,7 @@ unfolding decided passing removal
 follows_next {b} {k} {cursor} f ts x h =
     record {
       passes = λ y l. rw (f.passes x h) (passed_asked b x y l);
-      serves = rw (f.passes x h, asked-next f x h, asked-removals f x h, take_starting (updates b) x) (go (leb x (asked b x).reach) (eqb x (asked b x).added) _);
+      serves = rw (f.passes x h, asked_next f x h, asked_removals f x h, take_starting (updates b) x) (go (leb x (asked b x).reach) (eqb x (asked b x).added) _);
     }
   where
     anew : ℕ → Latest
@@ -236,9 +236,9 @@ follows_next {b} {k} {cursor} f ts x h =
     go : (s t r : Bool) →
         Serves (λ y. latest (reaches_to y) (starting_to x (updates b))) x
         (cond {A = Removal} s (cond t (record { latest = anew (asked b x).arrived; removed = r }) (record { latest = hand f x h; removed = true })) (record { latest = hand f x h; removed = false })).latest
-    go true true r = serves-renewed f x h (asked b x).arrived
-    go true false r = serves-hand f x h
-    go false t r = serves-hand f x h
+    go true true r = serves_renewed f x h (asked b x).arrived
+    go true false r = serves_hand f x h
+    go false t r = serves_hand f x h
 
 -- in a batch in order, with where its rounds reach to, what is decided is what the batch does to the pair
 pub asked_facts : (b : List ℕ) (x : ℕ) → batch_number b ≡ 0 → 0 < x →
@@ -259,7 +259,7 @@ pub follows_withdrawn :
     {b : List ℕ} {k : ℕ} {cursor : Cursor} → Follows b k cursor → batch_number b ≡ 0 → (x : ℕ) → k ≤ x → 0 < x →
     (decided b (round_reaches (updates b)) cursor x).withdrawn ≡ withdrawn (updates b) x
 unfolding decided passing removal annulled
-follows_withdrawn {b} {k} {cursor} f e x l h = rw (f.passes x l, asked-removals f x l, most) (go (eqb x (asked b x).added) refl (leb x (asked b x).reach) refl)
+follows_withdrawn {b} {k} {cursor} f e x l h = rw (f.passes x l, asked_removals f x l, most) (go (eqb x (asked b x).added) refl (leb x (asked b x).reach) refl)
   where
     us : List Update
     us = updates b
@@ -282,8 +282,8 @@ follows_withdrawn {b} {k} {cursor} f e x l h = rw (f.passes x l, asked-removals 
     order : falls 0 us ≡ false
     order = (in_order b e).ordered
 
-    annulled-by : reached (round_reaches us) sought p ≡ any_update (covers 3 p) us
-    annulled-by = rounds_reached us formed order cursor.begun p (omega arith)
+    annulled_by : reached (round_reaches us) sought p ≡ any_update (covers 3 p) us
+    annulled_by = rounds_reached us formed order cursor.begun p (omega arith)
 
     covering : latest (reaches_to x) (starting_to x us) ≡ latest (covers 2 x) us
     covering = reaching us x 0 order
@@ -295,13 +295,13 @@ follows_withdrawn {b} {k} {cursor} f e x l h = rw (f.passes x l, asked-removals 
         found : (s : Bool) → ltb a (hand f x l).arrival ≡ s → (t : Bool) → ltb (hand f x l).reach x ≡ t →
             ltb a (cond (s && t) (latest_of x none (take (removals_of 0 0 (starting_to x us)) us)) (hand f x l)).arrival ≡ ltb a (latest (covers 2 x) us)
         found true i true j = rw (latest_found (take (removals_of 0 0 (starting_to x us)) us) x none, first_removals us x x, covering) (let q : max 0 (latest (covers 2 x) us) ≡ latest (covers 2 x) us = omega arith in rw q)
-        found true i false j = ap (ltb a) (sym ((serves-hand f x l).just x (omega arith) (ltb-false (hand f x l).reach x j)) ∙ covering)
+        found true i false j = ap (ltb a) (sym ((serves_hand f x l).just x (omega arith) (ltb-false (hand f x l).reach x j)) ∙ covering)
         found false i t j =
-            rw i (sym (le-ltb a (latest (covers 2 x) us) (omega (arith, covering, (serves-hand f x l).most x (omega arith), ltb-false a (hand f x l).arrival i))))
+            rw i (sym (le-ltb a (latest (covers 2 x) us) (omega (arith, covering, (serves_hand f x l).most x (omega arith), ltb-false a (hand f x l).arrival i))))
 
     -- a round did
-    laterRound : (a : ℕ) → (any_update (covers 3 p) us && (ltb a (asked b x).rounds && annuls_later us sought p a)) ≡ ltb a (latest (covers 3 p) us)
-    laterRound a =
+    later_round : (a : ℕ) → (any_update (covers 3 p) us && (ltb a (asked b x).rounds && annuls_later us sought p a)) ≡ ltb a (latest (covers 3 p) us)
+    later_round a =
         unfold annuls_later in
         rw (← starting_begun us formed order cursor.begun p (omega arith), take_starting us p, rounds_later us 0 p a formed order (omega arith), latest_after (covers 3 p) us a)
         (among (any_update (covers 3 p) us) refl (ltb a (asked b x).rounds) refl)
@@ -331,13 +331,13 @@ follows_withdrawn {b} {k} {cursor} f e x l h = rw (f.passes x l, asked-removals 
     go false i reach j =
         let a = asked_facts b x e h in
         let not-added : added us x ≡ false = unfold added in sym a.1 ∙ i in
-        rw (withdrawn_removed b x e not-added, and-true (reached (round_reaches us) sought p), annulled-by) (unfold removed in rw (any_removes x us, ← a.0, j) (by reach))
+        rw (withdrawn_removed b x e not-added, and-true (reached (round_reaches us) sought p), annulled_by) (unfold removed in rw (any_removes x us, ← a.0, j) (by reach))
       where
         by : (t : Bool) →
             ((cond {A = Removal} t (record { latest = hand f x l; removed = true }) (record { latest = hand f x l; removed = false })).removed || any_update (covers 3 p) us)
             ≡ (t || any_update (covers 3 p) us)
         by true = refl
         by false = refl
-    go true i true j = rw (asked_arrived b x e h i, annulled-by, laterRound (latest (adds x) us), later (latest (adds x) us), among)
+    go true i true j = rw (asked_arrived b x e h i, annulled_by, later_round (latest (adds x) us), later (latest (adds x) us), among)
     go true i false j =
-        rw (asked_arrived b x e h i, annulled-by, laterRound (latest (adds x) us), among, latest_none (covers 2 x) us (sym (asked_facts b x e h).0 ∙ j), le-ltb (latest (adds x) us) 0 (omega arith))
+        rw (asked_arrived b x e h i, annulled_by, later_round (latest (adds x) us), among, latest_none (covers 2 x) us (sym (asked_facts b x e h).0 ∙ j), le-ltb (latest (adds x) us) 0 (omega arith))

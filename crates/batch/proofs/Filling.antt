@@ -41,7 +41,7 @@ module _ {b l now : List ℕ} {reach n : ℕ} (f : Filling b l now reach n) wher
       record {
         few = more;
         fits = omega (arith, f.fits, filling_length f);
-        written = ap₂ (λ ws a. set ws n a) f.written (sym here) ∙ rw zero-first at (sets_next all l 0 n (omega (arith, more)));
+        written = ap₂ (λ ws a. set ws n a) f.written (sym here) ∙ rw zero_first at (sets_next all l 0 n (omega (arith, more)));
         rest = sym (drop-drop 1 n all) ∙ ap (drop 1) next;
       }
     where
@@ -57,8 +57,8 @@ module _ {b l now : List ℕ} {reach n : ℕ} (f : Filling b l now reach n) wher
       here : get_or all n 0 ≡ far
       here = sym (get_or-drop n all 0 0 ∙ ap (λ k. get_or all k 0) (add-zero n)) ∙ ap (λ ws. get_or ws 0 0) next
 
-      zero-first : 0 + n ≡ n
-      zero-first = omega arith
+      zero_first : 0 + n ≡ n
+      zero_first = omega arith
 
   -- the answer: all of them are written, or as many as there is room for
   abbrev Filled : Type 0

@@ -29,8 +29,8 @@ module _ (b : List ℕ) where
   abbrev all : List ℕ
   all = arrivals (updates b)
 
-  so-many : length all ≡ length b / 5
-  so-many = length_arrivals (updates b) ∙ length_updates b
+  so_many : length all ≡ length b / 5
+  so_many = length_arrivals (updates b) ∙ length_updates b
 
   -- that of the record n
   number_at : (n : ℕ) → n < length b / 5 → drop n all ≡ (record_at b n).arrival ∷ drop (n + 1) all
@@ -55,7 +55,7 @@ module _ (b : List ℕ) where
     numbering_turn h =
         record {
           few = omega arith;
-          written = ap₂ (λ ws a. set ws n a) s.written (sym here) ∙ rw first at (sets_next all l 0 n (omega (arith, so-many)));
+          written = ap₂ (λ ws a. set ws n a) s.written (sym here) ∙ rw first at (sets_next all l 0 n (omega (arith, so_many)));
           zeros = s.zeros ∙ rw (number_at n h) (sym (or_assoc without (eqb 0 (record_at b n).arrival) (any (eqb 0) (drop (n + 1) all))));
         }
       where
@@ -69,8 +69,8 @@ module _ (b : List ℕ) where
     unfolding any
     numbering_end h =
         let behind : drop n all ≡ [] = unfold arrivals in arrivals_drop n (updates b) ∙ rw (update_end b n h) in
-        (sym (s.zeros ∙ rw behind (or-false without)), s.written ∙ ap (sets l 0) (take_all n all (omega (arith, so-many))))
+        (sym (s.zeros ∙ rw behind (or-false without)), s.written ∙ ap (sets l 0) (take_all n all (omega (arith, so_many))))
 
   -- in a memory with room for all of them what is written is all
   pub numbers_whole : length b ≤ 20480 → take (length b / 5) (sets (replicate 4096 0) 0 all) ≡ all
-  numbers_whole h = rw (← so-many) (part_sets_same all (replicate 4096 0) 0 (omega (arith, so-many, length-replicate {A = ℕ} 4096 0)))
+  numbers_whole h = rw (← so_many) (part_sets_same all (replicate 4096 0) 0 (omega (arith, so_many, length-replicate {A = ℕ} 4096 0)))

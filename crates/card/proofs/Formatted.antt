@@ -73,13 +73,13 @@ module _ (c : List ℕ) (b n : ℕ) (e : format_number c b n ≡ 0) where
   pub formatted_position : word (formatted c b n) 7 ≡ 0
   formatted_position = formatted_word 7 (omega arith)
 
-  oldNone : old_places (formatted c b n) ≡ []
+  old_none : old_places (formatted c b n) ≡ []
   unfolding around
-  oldNone = rw formatted_old
+  old_none = rw formatted_old
 
-  newNone : new_places (formatted c b n) ≡ []
+  new_none : new_places (formatted c b n) ≡ []
   unfolding around
-  newNone = rw formatted_new
+  new_none = rw formatted_new
 
   pub formatted_bound : boundary (formatted c b n) ≡ 0
   formatted_bound = rw (formatted_term, formatted_position)
@@ -99,18 +99,18 @@ module _ (c : List ℕ) (b n : ℕ) (e : format_number c b n ≡ 0) where
         start = rw (count, formatted_word 3 (omega arith)) (omega (arith, f.range.count_low));
         room = rw (count, formatted_old, formatted_new) (omega (arith, f.range.count_low));
         bound_words = rw (formatted_new, formatted_term, formatted_position);
-        new_sound = rw newNone;
-        old_sound = rw oldNone;
-        new_rising = rw newNone;
-        old_rising = rw oldNone;
-        last_new = rw (newNone, formatted_bound);
-        reaches = rw oldNone;
+        new_sound = rw new_none;
+        old_sound = rw old_none;
+        new_rising = rw new_none;
+        old_rising = rw old_none;
+        last_new = rw (new_none, formatted_bound);
+        reaches = rw old_none;
       })
 
   -- It has no live pair.
   pub formatted_live : live (formatted c b n) ≡ []
   unfolding live pairs_at above keep
-  formatted_live = rw (newNone, oldNone)
+  formatted_live = rw (new_none, old_none)
 
   -- All words but the first 8 stand.
   pub formatted_rest : drop 8 (formatted c b n) ≡ drop 8 c

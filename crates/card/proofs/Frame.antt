@@ -88,9 +88,9 @@ module _ (c d : List ℕ) (a : Alike c d) where
   unfolding live
   live_alike = rw (new_pairs_alike, old_pairs_alike, boundary_alike)
 
-  segments-alike : segments_sound d ≡ segments_sound c
+  segments_alike : segments_sound d ≡ segments_sound c
   unfolding segments_sound
-  segments-alike =
+  segments_alike =
       rw (
         new_pairs_alike,
         old_pairs_alike,
@@ -105,4 +105,4 @@ module _ (c d : List ℕ) (a : Alike c d) where
   -- The judge's number is the same.
   pub judged_alike : judged d ≡ judged c
   unfolding judged boundary_agrees
-  judged_alike = rw (segments-alike, a.long, w0, w1, w2, w3, w4, w5, w6, w7)
+  judged_alike = rw (segments_alike, a.long, w0, w1, w2, w3, w4, w5, w6, w7)

@@ -109,12 +109,12 @@ only (b ∷ x ∷ bs) h o e =
     let f = figure_byte b (and_left (is_figure b) (all_figures (x ∷ bs)) e) in
     let v : 10 * 0 + (b - figure 0) ≡ b - figure 0 = omega arith in
     let long : eqb (suc (suc (length bs))) 1 ≡ false = ne_eqb (suc (suc (length bs))) 1 (λ z. omega arith) in
-    let more : 0 < b - figure 0 = omega (arith, f.0, eqb-false b 48 (not-true (eqb b 48) (rw long at o))) in
+    let more : 0 < b - figure 0 = omega (arith, f.0, eqb-false b 48 (not_true (eqb b 48) (rw long at o))) in
     rw v (ap (λ l. l ++ x ∷ bs) (alone b f) ∙ sym (decimal_more (x ∷ bs) (b - figure 0) more (and_right (is_figure b) (all_figures (x ∷ bs)) e)))
   where
-    not-true : (t : Bool) → not t ≡ true → t ≡ false
-    not-true true e = sym e
-    not-true false e = refl
+    not_true : (t : Bool) → not t ≡ true → t ≡ false
+    not_true true e = sym e
+    not_true false e = refl
 
 pub numbers_only : NumbersOnly
 unfolding NumbersOnly is_number

@@ -85,17 +85,17 @@ search_start c start len k =
     record { order = zero-le; inside = omega arith; half = rw (length_mapped c start len) at (halved_start (mapped c start len) k) }
 
 module _ {c : List ℕ} {k : Configuration} {start len r low high m v : ℕ} (h : Searching c start len r low high) (o : Ordered c k) (l : low ≤ m) (u : m < high) (e : v ≡ first_pair c (place_on k.places start m)) where
-  at-middle : v ≡ get_or (mapped c start len) m 0
-  at-middle =
+  at_middle : v ≡ get_or (mapped c start len) m 0
+  at_middle =
       let inside : m < len = omega (arith, h.inside) in
       e ∙ ap (first_pair c) (place_on_law o start m)
       ∙ sym (mapped_at c (around (place_count c) start len) m (rw length_around inside) ∙ ap (first_pair c) (around_at (place_count c) start len m inside))
 
   pub search_up : v ≤ r → Searching c start len r (m + 1) high
-  search_up q = record { order = omega arith; inside = h.inside; half = halved_up h.half l u (omega (arith, at-middle)) }
+  search_up q = record { order = omega arith; inside = h.inside; half = halved_up h.half l u (omega (arith, at_middle)) }
 
   pub search_down : r < v → Searching c start len r low m
-  search_down q = record { order = l; inside = omega (arith, h.inside); half = halved_down h.half l u (omega (arith, at-middle)) }
+  search_down q = record { order = l; inside = omega (arith, h.inside); half = halved_down h.half l u (omega (arith, at_middle)) }
 
 pub search_end :
     {c : List ℕ} {k : Configuration} {start len r low high : ℕ} → Searching c start len r low high → high ≤ low → Segment c k start len →

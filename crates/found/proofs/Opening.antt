@@ -54,14 +54,14 @@ module _ (c : List ℕ) (k a z : ℕ) (f : ℕ → Bool) (h : (x : ℕ) → f x 
       keep_same f (λ x. (leb a x && leb x z) && ltb k x) (λ x. h x ∙ turned (ltb k x) (leb a x) (leb x z)) xs
       ∙ sym (keep_keep (ltb k) (λ x. leb a x && leb x z) xs)
 
-  within-above : (xs : List ℕ) → keep f xs ≡ within a z (above k xs)
+  within_above : (xs : List ℕ) → keep f xs ≡ within a z (above k xs)
   unfolding above within
-  within-above xs = keep_same f (λ x. ltb k x && (leb a x && leb x z)) h xs ∙ sym (keep_keep (λ x. leb a x && leb x z) (ltb k) xs)
+  within_above xs = keep_same f (λ x. ltb k x && (leb a x && leb x z)) h xs ∙ sym (keep_keep (λ x. leb a x && leb x z) (ltb k) xs)
 
-  run-at : (is none : List ℕ) → run_at c k a z is none ≡ run_of c f is none
+  run_at_law : (is none : List ℕ) → run_at c k a z is none ≡ run_of c f is none
   unfolding run_at at_first
-  run-at [] none = refl
-  run-at (i ∷ is) none = rw (← above_within (pairs (place c i)), run_at) (go (keep f (pairs (place c i))) refl (run-at is none))
+  run_at_law [] none = refl
+  run_at_law (i ∷ is) none = rw (← above_within (pairs (place c i)), run_at) (go (keep f (pairs (place c i))) refl (run_at_law is none))
     where
       go :
           (ks : List ℕ) → keep f (pairs (place c i)) ≡ ks → run_at c k a z is none ≡ run_of c f is none →
@@ -102,11 +102,11 @@ few_found c t a z w g =
 
 -- a pair below the range is not wanted, nor one above it
 module _ {t a z b r : ℕ} (l : LiveAfter t a z b r) where
-  not-below : (x : ℕ) → x < rank t a → is_wanted t r z x ≡ false
-  not-below x h = l.same x ∙ rw (lt-leb (rank t a) x h) (and-false (ltb b x))
+  not_below : (x : ℕ) → x < rank t a → is_wanted t r z x ≡ false
+  not_below x h = l.same x ∙ rw (lt-leb (rank t a) x h) (and-false (ltb b x))
 
-  not-above : (x : ℕ) → rank t z < x → is_wanted t r z x ≡ false
-  not-above x h = l.same x ∙ rw (lt-leb x (rank t z) h, and-false (leb (rank t a) x)) (and-false (ltb b x))
+  not_above : (x : ℕ) → rank t z < x → is_wanted t r z x ≡ false
+  not_above x h = l.same x ∙ rw (lt-leb x (rank t z) h, and-false (leb (rank t a) x)) (and-false (ltb b x))
 
 -- The segments as the code names them, by the configuration in hand.
 module _ {c : List ℕ} {k : Configuration} (g : Facts c) (i : ConfigurationOf c k) where
@@ -145,10 +145,10 @@ module _ (c : List ℕ) (k : Configuration) (t a z r q : ℕ) (w : Words c) (e :
   g = facts c b.sound
 
   new : Same c (is_wanted t r z) (new_places c) (places_of c newSpan)
-  new = rw (new_places_law g i) at (span_same c k _ k.new_length t a z r (new_segment g i) b.range (is_wanted t r z) (not-below l) (not-above l))
+  new = rw (new_places_law g i) at (span_same c k _ k.new_length t a z r (new_segment g i) b.range (is_wanted t r z) (not_below l) (not_above l))
 
   old : Same c (is_wanted t q z) (old_places c) (places_of c oldSpan)
-  old = rw (old_places_law g i) at (span_same c k _ k.old_length t a z q (old_segment g i) b.range (is_wanted t q z) (not-below m) (not-above m))
+  old = rw (old_places_law g i) at (span_same c k _ k.old_length t a z q (old_segment g i) b.range (is_wanted t q z) (not_below m) (not_above m))
 
   -- every new pair from a to z is above 0
   plain : (x : ℕ) → is_wanted t r z x ≡ (leb (rank t a) x && leb x (rank t z))
@@ -162,22 +162,22 @@ module _ (c : List ℕ) (k : Configuration) (t a z r q : ℕ) (w : Words c) (e :
   unfolding found live postings within spanned
   is_found =
       rw (← new.kept, ← old.kept)
-      (rw (keep_same (is_wanted t r z) (λ x. leb (rank t a) x && leb x (rank t z)) plain (pairs_at c (new_places c)), within-above c (boundary c) (rank t a) (rank t z) (is_wanted t q z) m.same (pairs_at c (old_places c)))
+      (rw (keep_same (is_wanted t r z) (λ x. leb (rank t a) x && leb x (rank t z)) plain (pairs_at c (new_places c)), within_above c (boundary c) (rank t a) (rank t z) (is_wanted t q z) m.same (pairs_at c (old_places c)))
       (sym (ap (map position) (keep_append (λ x. leb (rank t a) x && leb x (rank t z)) (pairs_at c (new_places c)) (above (boundary c) (pairs_at c (old_places c))))
       ∙ map-append _ (keep (λ x. leb (rank t a) x && leb x (rank t z)) (pairs_at c (new_places c))) (keep (λ x. leb (rank t a) x && leb x (rank t z)) (above (boundary c) (pairs_at c (old_places c)))))))
 
-  is-run : next_run c walk ≡ run c t a z
+  is_run : next_run c walk ≡ run c t a z
   unfolding run spanned
-  is-run =
+  is_run =
       let F = is_wanted t r z in
       let G = is_wanted t q z in
       rw (eq-eqb (question_number c t a z) 0 e, ← new.run, ← old.run)
-      (sym (run-at c 0 (rank t a) (rank t z) F l.same (new_places c) _
-      ∙ ap (run_of c F (new_places c)) (run-at c (boundary c) (rank t a) (rank t z) G m.same (old_places c) [])))
+      (sym (run_at_law c 0 (rank t a) (rank t z) F l.same (new_places c) _
+      ∙ ap (run_of c F (new_places c)) (run_at_law c (boundary c) (rank t a) (rank t z) G m.same (old_places c) [])))
 
-  is-start : next_start c walk ≡ run_start c t a z
+  is_start : next_start c walk ≡ run_start c t a z
   unfolding run_start spanned
-  is-start =
+  is_start =
       let F = is_wanted t r z in
       let G = is_wanted t q z in
       rw (eq-eqb (question_number c t a z) 0 e, ← new.start, ← old.start)
@@ -195,6 +195,6 @@ module _ (c : List ℕ) (k : Configuration) (t a z r q : ℕ) (w : Words c) (e :
         found = is_found;
         few = rw is_found (few_found c t a z w g);
         blocks = unfold spanned blocks_read in rw (new_places_law g i, old_places_law g i);
-        run = is-run;
-        start = is-start;
+        run = is_run;
+        start = is_start;
       }

@@ -92,13 +92,13 @@ module _ {A : Type 0} (c : List ℕ) (f : ℕ → Bool) (has : ℕ → A) where
   abbrev kept : ℕ → List ℕ
   kept i = keep f (pairs (place c i))
 
-  first-skip : (i : ℕ) (is : List ℕ) (none : A) → kept i ≡ [] → at_first c f has (i ∷ is) none ≡ at_first c f has is none
+  first_skip : (i : ℕ) (is : List ℕ) (none : A) → kept i ≡ [] → at_first c f has (i ∷ is) none ≡ at_first c f has is none
   unfolding at_first
-  first-skip i is none e = rw (e, at_first)
+  first_skip i is none e = rw (e, at_first)
 
-  first-hit : (i : ℕ) (is : List ℕ) (none : A) → 0 < length (kept i) → at_first c f has (i ∷ is) none ≡ has i
+  first_hit : (i : ℕ) (is : List ℕ) (none : A) → 0 < length (kept i) → at_first c f has (i ∷ is) none ≡ has i
   unfolding at_first
-  first-hit i is none h = go (kept i) h
+  first_hit i is none h = go (kept i) h
     where
       go : (ks : List ℕ) → 0 < length ks → elim ks [ [] ↦ at_first c f has is none | x ∷ xs ↦ has i ] ≡ has i
       go [] l = absurd (omega arith)
@@ -112,7 +112,7 @@ module _ {A : Type 0} (c : List ℕ) (f : ℕ → Bool) (has : ℕ → A) where
   -- where no pair passes, it is that of no place; where one does, that plays no part
   pub first_none : (is : List ℕ) (none : A) → keep f (pairs_at c is) ≡ [] → at_first c f has is none ≡ none
   first_none [] none e = unfold at_first in refl
-  first_none (i ∷ is) none e = first-skip i is none both.0 ∙ first_none is none both.1
+  first_none (i ∷ is) none e = first_skip i is none both.0 ∙ first_none is none both.1
     where
       both : (kept i ≡ []) × (keep f (pairs_at c is) ≡ [])
       both = append_empty (kept i) (keep f (pairs_at c is)) (unfold pairs_at in (sym (keep_append f (pairs (place c i)) (pairs_at c is)) ∙ e))
@@ -122,8 +122,8 @@ module _ {A : Type 0} (c : List ℕ) (f : ℕ → Bool) (has : ℕ → A) where
   first_some (i ∷ is) a b h = go (first_some is a b) (kept i) refl
     where
       go : (0 < length (postings c f is) → at_first c f has is a ≡ at_first c f has is b) → (ks : List ℕ) → kept i ≡ ks → at_first c f has (i ∷ is) a ≡ at_first c f has (i ∷ is) b
-      go ih [] e = first-skip i is a e ∙ ih (rw (postings_skip c f i is e) at h) ∙ sym (first-skip i is b e)
-      go ih (x ∷ xs) e = let l : 0 < length (kept i) = rw e (omega arith) in first-hit i is a l ∙ sym (first-hit i is b l)
+      go ih [] e = first_skip i is a e ∙ ih (rw (postings_skip c f i is e) at h) ∙ sym (first_skip i is b e)
+      go ih (x ∷ xs) e = let l : 0 < length (kept i) = rw e (omega arith) in first_hit i is a l ∙ sym (first_hit i is b l)
 
 -- The first block of a stretch is read: what is ahead is its part and what is ahead behind it.
 module _ {c : List ℕ} {t a z p b : ℕ} {x : Part} {k : Configuration} {q : ℕ} (o : ConfigurationOf c k) (h : 0 < b) (y : PlacePart c p t a z x) (e : q ≡ place_on k.places p 1) (r : Ready c (record { place = p; blocks = b; after = a })) where
@@ -201,16 +201,16 @@ module _ {c : List ℕ} {t z : ℕ} {s : Stretch} {p b : ℕ} {x : Part} {k : Co
       record {
         most = omega (arith, g.most);
         ready = λ r. ready_behind o h y e (g.ready r);
-        run = λ r. g.run r ∙ rw (step o h y e (g.ready r)) (first-skip c f _ p behind [] (none r));
-        starts = λ r. g.starts r ∙ rw (step o h y e (g.ready r)) (first-skip c f _ p behind 0 (none r));
-        rest = λ r. g.rest r ∙ rw zero-len at (ahead_part o h y e (g.ready r));
+        run = λ r. g.run r ∙ rw (step o h y e (g.ready r)) (first_skip c f _ p behind [] (none r));
+        starts = λ r. g.starts r ∙ rw (step o h y e (g.ready r)) (first_skip c f _ p behind 0 (none r));
+        rest = λ r. g.rest r ∙ rw zero_len at (ahead_part o h y e (g.ready r));
       }
     where
-      zero-len : x.len ≡ 0
-      zero-len = omega arith
+      zero_len : x.len ≡ 0
+      zero_len = omega arith
 
       none : Ready c s → keep f (pairs (place c p)) ≡ []
-      none r = map_nil position (keep f (pairs (place c p))) (sym (rw zero-len at (y.positions (live o h y e (g.ready r)).0)))
+      none r = map_nil position (keep f (pairs (place c p))) (sym (rw zero_len at (y.positions (live o h y e (g.ready r)).0)))
 
   -- it has the run
   pub seeking_hit : 0 < x.len → Sought c t z s (record { start = x.start; len = x.len; rest = left s q (b - 1) })
@@ -221,19 +221,19 @@ module _ {c : List ℕ} {t z : ℕ} {s : Stretch} {p b : ℕ} {x : Part} {k : Co
         fewer = λ j. omega (arith, g.most);
         spent = λ j. absurd (let z : ⊥ = omega arith in z);
         ready = λ r. ready_behind o h y e (g.ready r);
-        run = λ r. y.positions (formed-first r) ∙ sym (g.run r ∙ rw (step o h y e (g.ready r)) (first-hit c f _ p behind [] (some r)));
-        starts = λ r. y.before (formed-first r) l ∙ sym (g.starts r ∙ rw (step o h y e (g.ready r)) (first-hit c f _ p behind 0 (some r)));
+        run = λ r. y.positions (formed_first r) ∙ sym (g.run r ∙ rw (step o h y e (g.ready r)) (first_hit c f _ p behind [] (some r)));
+        starts = λ r. y.before (formed_first r) l ∙ sym (g.starts r ∙ rw (step o h y e (g.ready r)) (first_hit c f _ p behind 0 (some r)));
         rest = λ r. g.rest r ∙ ahead_part o h y e (g.ready r);
         none = λ r j. absurd (let z : ⊥ = omega arith in z);
       }
     where
-      formed-first : Ready c s → formed (place c p) ≡ true
-      formed-first r = (live o h y e (g.ready r)).0
+      formed_first : Ready c s → formed (place c p) ≡ true
+      formed_first r = (live o h y e (g.ready r)).0
 
       some : Ready c s → 0 < length (keep f (pairs (place c p)))
       some r =
           let e : length (take x.len (drop x.start c)) ≡ length (keep f (pairs (place c p)))
-          = ap length (y.positions (formed-first r)) ∙ length-map (keep f (pairs (place c p))) position in
+          = ap length (y.positions (formed_first r)) ∙ length-map (keep f (pairs (place c p))) position in
           let m = length_part c x.start x.len y.inside in
           omega arith
 

@@ -42,29 +42,29 @@ module _ (c b : List ℕ) (h : History) (k : Keeping c h) (wb : Words b) (z : st
   m = remaining c b f k.words wb a.in_order
 
   -- The write of a step that is not refused.
-  keeping-written : Keeping (written c r (next_write c r)) (cond (eqb (next_write c r) 3) (landed b h) h)
-  keeping-written =
+  keeping_written : Keeping (written c r (next_write c r)) (cond (eqb (next_write c r) 3) (landed b h) h)
+  keeping_written =
       by_next_write c r (λ w. Keeping (written c r w) (cond (eqb w 3) (landed b h) h))
       (λ some. keeping_alike c (written c r 1) h k (written_first_alike c r f) (written_first_words c r f k.words m.proper))
       (λ some placed. keeping_alike c (written c r 2) h k (written_second_alike c r f) (written_second_words c r f k.words m.proper some))
       (λ ready. keeping_landed c b h k m ready a.free)
 
   -- The same write, cut.
-  keeping-cut :
+  keeping_cut :
       (ws : List ℕ) (l : Bool) → Words ws →
       Keeping (cond (eqb (next_write c r) 3) (cond l (written c r (next_write c r)) c) (with_write c (torn_write (the_write c r (next_write c r)) ws)))
       (cond (eqb (next_write c r) 3 && l) (landed b h) h)
   unfolding the_write torn_write
-  keeping-cut ws l wd =
+  keeping_cut ws l wd =
       by_next_write c r (λ w. Keeping (cond (eqb w 3) (cond l (written c r w) c) (with_write c (torn_write (the_write c r w) ws))) (cond (eqb w 3 && l) (landed b h) h))
-      (λ some. keeping_alike c _ h k (alike_due_place c (torn-words (due_block c r)) f (omega (arith, length_due_block_law c r, length_just (length (due_block c r)) ws)))
-      (words_sets (torn-words (due_block c r)) c (place_at c (due_place c)) k.words (words_just (length (due_block c r)) ws wd)))
-      (λ some placed. keeping_alike c _ h k (alike_due_entry c (torn-words (due_entry r)) f (omega (arith, length_due_entry c r, length_just (length (due_entry r)) ws)))
-      (words_sets (torn-words (due_entry r)) c (entry_at c (due_place c)) k.words (words_just (length (due_entry r)) ws wd)))
+      (λ some. keeping_alike c _ h k (alike_due_place c (torn_words (due_block c r)) f (omega (arith, length_due_block_law c r, length_just (length (due_block c r)) ws)))
+      (words_sets (torn_words (due_block c r)) c (place_at c (due_place c)) k.words (words_just (length (due_block c r)) ws wd)))
+      (λ some placed. keeping_alike c _ h k (alike_due_entry c (torn_words (due_entry r)) f (omega (arith, length_due_entry c r, length_just (length (due_entry r)) ws)))
+      (words_sets (torn_words (due_entry r)) c (entry_at c (due_place c)) k.words (words_just (length (due_entry r)) ws wd)))
       (λ ready. go l ready)
     where
-      torn-words : List ℕ → List ℕ
-      torn-words es = just (length es) ws
+      torn_words : List ℕ → List ℕ
+      torn_words es = just (length es) ws
 
       go : (t : Bool) → (0 < length r → DueWritten c r) → Keeping (cond t (written c r 3) c) (cond t (landed b h) h)
       go true ready = keeping_landed c b h k m ready a.free
@@ -76,7 +76,7 @@ unfolding taken refused
 keeping_stepped c b h k wb = go (eqb (step_number c b) 0) refl
   where
     go : (t : Bool) → eqb (step_number c b) 0 ≡ t → Keeping (step c b).card (cond (eqb (step c b).write 3) (landed b h) h)
-    go true e = let z = eqb-true (step_number c b) 0 e in rw (step_taken c b z) (keeping-written c b h k wb z)
+    go true e = let z = eqb-true (step_number c b) 0 e in rw (step_taken c b z) (keeping_written c b h k wb z)
     go false e = rw (step_refused c b e) k
 
 -- A cut step, refused or not.
@@ -86,7 +86,7 @@ unfolding taken refused torn torn_write just
 keeping_torn c b ws l h k wb wd = go (eqb (step_number c b) 0) refl
   where
     go : (t : Bool) → eqb (step_number c b) 0 ≡ t → Keeping (torn c b ws l) (cond (eqb (step c b).write 3 && l) (landed b h) h)
-    go true e = let z = eqb-true (step_number c b) 0 e in rw (step_taken c b z) (keeping-cut c b h k wb z ws l wd)
+    go true e = let z = eqb-true (step_number c b) 0 e in rw (step_taken c b z) (keeping_cut c b h k wb z ws l wd)
     go false e = rw (step_refused c b e) k
 
 -- A call of the formatter, refused or not.

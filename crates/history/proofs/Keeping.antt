@@ -93,24 +93,24 @@ module _ (c b : List ℕ) (h : History) (k : Keeping c h) (m : Remaining c (rema
   pub keeping_goes_on : goes_on (block_size c) r ≡ goes_on h.size (to_write b h)
   keeping_goes_on = rw (keeping_remains c b h k, k.size)
 
-  keeping-next : due (block_size c) r ≡ next b h
+  keeping_next : due (block_size c) r ≡ next b h
   unfolding next
-  keeping-next = rw (keeping_remains c b h k, k.size)
+  keeping_next = rw (keeping_remains c b h k, k.size)
 
-  landed-pairs : live (written c r 3) ≡ (landed b h).pairs
+  landed_pairs : live (written c r 3) ≡ (landed b h).pairs
   unfolding landed
-  landed-pairs = go (goes_on (block_size c) r) refl
+  landed_pairs = go (goes_on (block_size c) r) refl
     where
       go : (t : Bool) → goes_on (block_size c) r ≡ t → live (written c r 3) ≡ (landed b h).pairs
-      go true on = live_on c r f m ready on ∙ rw (sym keeping_goes_on ∙ on, keeping_boundary c h k, keeping-next, k.index)
+      go true on = live_on c r f m ready on ∙ rw (sym keeping_goes_on ∙ on, keeping_boundary c h k, keeping_next, k.index)
       go false end = live_end c r f m ready end ∙ rw (sym keeping_goes_on ∙ end, keeping_boundary c h k, keeping_remains c b h k, k.index)
 
-  landed-mark : next_boundary c r ≡ (landed b h).mark
+  landed_mark : next_boundary c r ≡ (landed b h).mark
   unfolding landed
-  landed-mark = go (goes_on (block_size c) r) refl
+  landed_mark = go (goes_on (block_size c) r) refl
     where
       go : (t : Bool) → goes_on (block_size c) r ≡ t → next_boundary c r ≡ (landed b h).mark
-      go true on = next_boundary_on c r f m ready on ∙ rw (sym keeping_goes_on ∙ on, keeping-next)
+      go true on = next_boundary_on c r f m ready on ∙ rw (sym keeping_goes_on ∙ on, keeping_next)
       go false end = next_boundary_end c r f m ready end ∙ rw (sym keeping_goes_on ∙ end)
 
   -- A configuration write keeps the card to its history.
@@ -119,8 +119,8 @@ module _ (c b : List ℕ) (h : History) (k : Keeping c h) (m : Remaining c (rema
       record {
         sound = configuration_sound c r f m ready free;
         words = configuration_words_law c r f m ready free k.words;
-        index = landed-pairs;
-        mark_term = configuration_term c r f m ready free ∙ ap term landed-mark;
-        mark_position = configuration_position c r f m ready free ∙ ap position landed-mark;
+        index = landed_pairs;
+        mark_term = configuration_term c r f m ready free ∙ ap term landed_mark;
+        mark_position = configuration_position c r f m ready free ∙ ap position landed_mark;
         size = configuration_size c r f m ready free ∙ k.size ∙ sym (landed_size b h);
       }

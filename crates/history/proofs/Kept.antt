@@ -20,8 +20,8 @@ pub record Kept (b s : List ℕ) (h : History) : Type 0 where
   pub now : h.pairs ≡ at_most h.mark (applied (updates b) s) ++ above h.mark s
 
 module _ (b s : List ℕ) (ordered : batch_number b ≡ 0) (r : rising_from 0 s ≡ true) where
-  rising-after : rising_from 0 (applied (updates b) s) ≡ true
-  rising-after = rising_batch b s ordered r
+  rising_after : rising_from 0 (applied (updates b) s) ≡ true
+  rising_after = rising_batch b s ordered r
 
   -- with no pass open
   pub kept_start : (h : History) → 3 ≤ h.size → h.mark ≡ 0 → h.pairs ≡ s → Kept b s h
@@ -29,17 +29,17 @@ module _ (b s : List ℕ) (ordered : batch_number b ≡ 0) (r : rising_from 0 s 
       record {
         large = z;
         now =
-            rw m (e ∙ rw (at_most_none (applied (updates b) s) 0 0 (omega arith) rising-after) (sym (above_all s 0 0 (omega arith) r)));
+            rw m (e ∙ rw (at_most_none (applied (updates b) s) 0 0 (omega arith) rising_after) (sym (above_all s 0 0 (omega arith) r)));
       }
 
   -- the pairs rise
   pub kept_rising : (h : History) → Kept b s h → rising_from 0 h.pairs ≡ true
-  kept_rising h k = rw k.now (rising_joined 0 h.mark (applied (updates b) s) s (omega arith) rising-after (rises_from s 0 r))
+  kept_rising h k = rw k.now (rising_joined 0 h.mark (applied (updates b) s) s (omega arith) rising_after (rises_from s 0 r))
 
   -- what the pass is to leave is s with the batch applied
   pub kept_target : (h : History) → Kept b s h → target b h ≡ applied (updates b) s
   unfolding target to_write
-  kept_target h k = rw (below, over) (parts (applied (updates b) s) 0 h.mark rising-after)
+  kept_target h k = rw (below, over) (parts (applied (updates b) s) 0 h.mark rising_after)
     where
       below : at_most h.mark h.pairs ≡ at_most h.mark (applied (updates b) s)
       below = ap (at_most h.mark) k.now ∙ at_most_joined h.mark (applied (updates b) s) s

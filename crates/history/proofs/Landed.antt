@@ -37,20 +37,20 @@ unfolding target to_write
 above_target b h = above_joined h.mark h.pairs (applied (updates b) h.pairs)
 
 module _ (b : List ℕ) (h : History) (r : rises h.pairs ≡ true) where
-  rises-written : rises (applied (updates b) h.pairs) ≡ true
-  rises-written = rises_applied (updates b) h.pairs r
+  rises_written : rises (applied (updates b) h.pairs) ≡ true
+  rises_written = rises_applied (updates b) h.pairs r
 
-  rising-toWrite : rising_from h.mark (to_write b h) ≡ true
+  rising_to_write : rising_from h.mark (to_write b h) ≡ true
   unfolding to_write
-  rising-toWrite = rises_above h.mark (applied (updates b) h.pairs) rises-written
+  rising_to_write = rises_above h.mark (applied (updates b) h.pairs) rises_written
 
-  rising-toWrite-0 : rising_from 0 (to_write b h) ≡ true
-  rising-toWrite-0 = rising_weaker (to_write b h) 0 h.mark (omega arith) rising-toWrite
+  rising_to_write_0 : rising_from 0 (to_write b h) ≡ true
+  rising_to_write_0 = rising_weaker (to_write b h) 0 h.mark (omega arith) rising_to_write
 
   -- D is what R has up to the new mark
   pub next_reach : at_most (reach b h) (to_write b h) ≡ next b h
   unfolding reach next due
-  next_reach = at_most_take (fitting h.size 0 (to_write b h)) (to_write b h) 0 rising-toWrite-0
+  next_reach = at_most_take (fitting h.size 0 (to_write b h)) (to_write b h) 0 rising_to_write_0
 
   module _ (z : 3 ≤ h.size) (g : goes_on h.size (to_write b h) ≡ true) where
     -- the new mark is above the old one
@@ -58,12 +58,12 @@ module _ (b : List ℕ) (h : History) (r : rises h.pairs ≡ true) where
     unfolding reach next
     mark_rises =
         rising_last_above (due h.size (to_write b h)) h.mark 0 (due_some h.size (to_write b h) z (goes_on_some h.size (to_write b h) g))
-        (rising_due h.size h.mark (to_write b h) rising-toWrite)
+        (rising_due h.size h.mark (to_write b h) rising_to_write)
 
     -- up to it the target has the pairs up to the old mark, then D
-    target-next : at_most (reach b h) (target b h) ≡ at_most h.mark h.pairs ++ next b h
+    target_next : at_most (reach b h) (target b h) ≡ at_most h.mark h.pairs ++ next b h
     unfolding target
-    target-next =
+    target_next =
         let l : h.mark ≤ reach b h = (let m = mark_rises in omega arith) in
         at_most_append (reach b h) (at_most h.mark h.pairs) (to_write b h)
         ∙ rw (at_most_at_most h.mark (reach b h) h.pairs l, next_reach)
@@ -71,7 +71,7 @@ module _ (b : List ℕ) (h : History) (r : rises h.pairs ≡ true) where
     -- going on, the write sets the mark to D's last pair, and the pairs up to there to those of the target
     pub landed_on : landed b h
         ≡ record { size = h.size; pairs = at_most (reach b h) (target b h) ++ above (reach b h) h.pairs; mark = reach b h }
-    landed_on = rw (target-next, append_assoc) (unfold landed reach in rw g)
+    landed_on = rw (target_next, append_assoc) (unfold landed reach in rw g)
 
   -- finishing, the pairs become the target
   pub landed_end : goes_on h.size (to_write b h) ≡ false → landed b h ≡ record { size = h.size; pairs = target b h; mark = 0 }

@@ -30,14 +30,14 @@ module _ (c b : List ℕ) (f : Facts c) (j : judged c ≡ 0) (w : Words c) (n : 
   taking = step_taken c b (room_for_number b c j w n o h)
 
   -- a step keeps the room
-  room-for-step : RoomFor b (step c b).card
+  room_for_step : RoomFor b (step c b).card
   unfolding taken
-  room-for-step = rw taking (room_for_written b c f w o h)
+  room_for_step = rw taking (room_for_written b c f w o h)
 
   -- so does a cut step
-  room-for-torn : (ws : List ℕ) (l : Bool) → RoomFor b (torn c b ws l)
+  room_for_torn : (ws : List ℕ) (l : Bool) → RoomFor b (torn c b ws l)
   unfolding torn taken the_write torn_write
-  room-for-torn ws l =
+  room_for_torn ws l =
       rw taking
       (by_next_write c r P
       (λ some. room_for_alike b c _ (alike_due_place c (just (length (due_block c r)) ws) f (omega (arith, length_due_block_law c r, length_just (length (due_block c r)) ws))) h)
@@ -57,8 +57,8 @@ module _ (c b : List ℕ) (f : Facts c) (j : judged c ≡ 0) (w : Words c) (n : 
 -- every event that lends the batch keeps the room
 room_for_after : (c b : List ℕ) (e : Event) → judged c ≡ 0 → Words c → batch_number b ≡ 0 → Removals b → Lends c b e → RoomFor b c → RoomFor b (after c e)
 unfolding after Lends
-room_for_after c b (stepped x) j w n o l h = rw l (room-for-step c b (facts c j) j w n o h)
-room_for_after c b (cut x ws t) j w n o l h = rw l (room-for-torn c b (facts c j) j w n o h ws t)
+room_for_after c b (stepped x) j w n o l h = rw l (room_for_step c b (facts c j) j w n o h)
+room_for_after c b (cut x ws t) j w n o l h = rw l (room_for_torn c b (facts c j) j w n o h ws t)
 room_for_after c b (looked t a z answer) j w n o l h = h
 room_for_after c b restarted j w n o l h = h
 room_for_after c b (formats x m) j w n o l h = rw (formatted_refused c x m (ne_eqb (format_number c x m) 0 l)) h

@@ -44,12 +44,12 @@ module _ (c b : List ℕ) (wc : Words c) (wb : Words b) (s : judged c ≡ 0) (w 
       rw (kept.index, keeping_boundary (step c b).card (landed b (itself c)) kept)
       (landed_moves b (itself c) (omega (arith, facts c s)) (live_rising c (facts c s)) (on f))
 
-  movedAll : (step c b).finished ≡ true → MovedAll (updates b) (boundary c) (live c) (live (step c b).card)
-  movedAll f = rw kept.index (landed_finishes b (itself c) (live_rising c (facts c s)) (off f))
+  moved_all : (step c b).finished ≡ true → MovedAll (updates b) (boundary c) (live c) (live (step c b).card)
+  moved_all f = rw kept.index (landed_finishes b (itself c) (live_rising c (facts c s)) (off f))
 
 pub moves_past : MovesPast
 unfolding MovesPast
-moves_past c b wc wb s w = (moved c b wc wb s w, movedAll c b wc wb s w)
+moves_past c b wc wb s w = (moved c b wc wb s w, moved_all c b wc wb s w)
 
 -- the third write is next only where the due block and its map entry are in place
 ready : (c r : List ℕ) → next_write c r ≡ 3 → 0 < length r → DueWritten c r

@@ -64,19 +64,19 @@ grouped true true true true e f = refl
 
 module _ (c : List ℕ) (e : first_of (configuration_conditions c) ≡ 0) (s : SegmentScan) (f : s ≡ segment_scanned c 0 (new_places c)) (k : ℕ) (g : k ≡ boundary c) where
   -- both segments
-  segments-tests :
+  segments_tests :
       segments_sound c
       ≡ ((s.sound && eqb s.last k) && (segment_sound c 0 (old_places c) && first_reaches c k (old_places c)))
   unfolding segments_sound segment_scanned
-  segments-tests =
+  segments_tests =
       grouped (blocks_sound c (new_places c)) (blocks_sound c (old_places c)) (rising_from 0 (pairs_at c (new_places c)))
       (rising_from 0 (pairs_at c (old_places c))) (eqb (last 0 (pairs_at c (new_places c))) (boundary c)) (first_reaches c (boundary c) (old_places c))
       ∙ rw (f, g) (rw (tested (segment_sound c 0 (new_places c)) (λ l. eqb l (boundary c)) (last 0 (pairs_at c (new_places c)))))
 
   pub judged_new : (s.sound && eqb s.last k) ≡ false → 4 ≡ judged c
-  judged_new t = sym (judged_late c e ∙ rw (segments-tests, t))
+  judged_new t = sym (judged_late c e ∙ rw (segments_tests, t))
 
   pub judged_old :
       (s.sound && eqb s.last k) ≡ true → (o : Bool) → o ≡ (segment_sound c 0 (old_places c) && first_reaches c k (old_places c)) →
       cond o 0 4 ≡ judged c
-  judged_old t o h = sym (judged_late c e ∙ rw (segments-tests, t, ← h))
+  judged_old t o h = sym (judged_late c e ∙ rw (segments_tests, t, ← h))

@@ -66,11 +66,11 @@ last_first c k i is some = last_append (pairs (place c i)) (pairs_at c is) k ∙
 
 module _ (c : List ℕ) (w : Words c) (k i : ℕ) (is : List ℕ) where
   -- the first of the places counts where its block is live and begins above k, and the rest then counts from its last pair
-  segment-first :
+  segment_first :
       segment_sound c k (i ∷ is)
       ≡ ((live_block c i && ltb k (get_or (pairs (place c i)) 0 0)) && segment_sound c (last 0 (pairs (place c i))) is)
   unfolding blocks_sound pairs_at
-  segment-first = go (live_block c i) refl
+  segment_first = go (live_block c i) refl
     where
       go :
           (l : Bool) → live_block c i ≡ l →
@@ -97,14 +97,14 @@ module _ (c : List ℕ) (w : Words c) (k i : ℕ) (is : List ℕ) where
         let l = and_left (live_block c i) (ltb k (get_or (pairs (place c i)) 0 0)) g in
         let some = formed_some (place c i) (and_left (formed (place c i)) (eqb (first_pair c i) (get_or (pairs (place c i)) 0 0)) l) in
         let z : s.last ≡ last 0 (pairs (place c i)) = rw (e, l) in
-        rw z (same_scan c k (last 0 (pairs (place c i))) (i ∷ is) is (rw g at segment-first) (last_first c k i is some))
+        rw z (same_scan c k (last 0 (pairs (place c i))) (i ∷ is) is (rw g at segment_first) (last_first c k i is some))
 
     -- the block does not count
     pub segment_stop : (s.formed && ltb k s.first) ≡ false → record { sound = false; last = 0 } ≡ segment_scanned c k (i ∷ is)
     unfolding segment_scanned
     segment_stop t =
         let g : (live_block c i && ltb k (get_or (pairs (place c i)) 0 0)) ≡ false = sym counts ∙ t in
-        let h : segment_sound c k (i ∷ is) ≡ false = rw g at segment-first in
+        let h : segment_sound c k (i ∷ is) ≡ false = rw g at segment_first in
         rw h
 
 -- j places of the segment are walked: it is as a whole what the rest is from k on
@@ -142,11 +142,11 @@ walking_end {c} {start} {len} {after} {k} {j} a h =
 
 module _ (c : List ℕ) (w : Words c) (k i : ℕ) (is : List ℕ) where
   -- the old segment: its first block counts where it is live and reaches above k
-  old-first :
+  old_first :
       (segment_sound c 0 (i ∷ is) && first_reaches c k (i ∷ is))
       ≡ ((live_block c i && ltb k (last 0 (pairs (place c i)))) && segment_sound c (last 0 (pairs (place c i))) is)
   unfolding first_reaches
-  old-first = rw (segment-first c w 0 i is) (go (live_block c i) refl)
+  old_first = rw (segment_first c w 0 i is) (go (live_block c i) refl)
     where
       go :
           (l : Bool) → live_block c i ≡ l →
@@ -169,12 +169,12 @@ module _ (c : List ℕ) (w : Words c) (k i : ℕ) (is : List ℕ) where
     old_turn t =
         let g : (live_block c i && ltb k (last 0 (pairs (place c i)))) ≡ true = sym reaches ∙ t in
         let z : s.last ≡ last 0 (pairs (place c i)) = rw (e, and_left (live_block c i) (ltb k (last 0 (pairs (place c i)))) g) in
-        rw z (sym (rw g at old-first))
+        rw z (sym (rw g at old_first))
 
     pub old_stop : (s.formed && ltb k s.last) ≡ false → false ≡ (segment_sound c 0 (i ∷ is) && first_reaches c k (i ∷ is))
     old_stop t =
         let g : (live_block c i && ltb k (last 0 (pairs (place c i)))) ≡ false = sym reaches ∙ t in
-        sym (rw g at old-first)
+        sym (rw g at old_first)
 
 -- the old places of a card with an old segment
 pub old_places_law : (c : List ℕ) → start_of_old c < place_count c → (length_of_old c ≡ 0 → ⊥) → old_places c ≡ start_of_old c ∷ around (place_count c) (start_of_old c + 1) (length_of_old c - 1)

@@ -159,26 +159,26 @@ module _
     long : length (laid (line_records bytes)) ≡ 5 * g.count
     long = laid_length 5 (line_records bytes) wide ∙ ap (λ n. 5 * n) (records_many bytes ∙ sym (a.many none))
 
-    words-laid : ws ≡ laid (line_records bytes)
-    words-laid = ap (take (5 * g.count)) (a.stand none) ∙ first_words (line_records bytes) l (5 * g.count) long (omega (arith, room, a.few))
+    words_laid : ws ≡ laid (line_records bytes)
+    words_laid = ap (take (5 * g.count)) (a.stand none) ∙ first_words (line_records bytes) l (5 * g.count) long (omega (arith, room, a.few))
 
     pub words_length : length ws ≡ 5 * g.count
-    words_length = ap length words-laid ∙ long
+    words_length = ap length words_laid ∙ long
 
-    batch-long : length (batch_of bytes) ≡ 5 * g.count
-    batch-long = batch_length bytes wide ∙ ap (λ n. 5 * n) (records_many bytes ∙ sym (a.many none))
+    batch_long : length (batch_of bytes) ≡ 5 * g.count
+    batch_long = batch_length bytes wide ∙ ap (λ n. 5 * n) (records_many bytes ∙ sym (a.many none))
 
     pub answers_unsorted :
         {after : List ℕ} → false ≡ (sort 5 1 ws batch).done → after ≡ (sort 5 1 ws batch).work →
         Answers (scored bytes batch) (record { number = 10; words = 0; line = 0 }) after
     answers_unsorted d e =
         let r = sort_refused ws batch g.count words_length d in
-        rw (e ∙ r.1) (answers_short bytes batch (sym a.of_number ∙ none) quiet (omega (arith, r.0, words_length, batch-long)))
+        rw (e ∙ r.1) (answers_short bytes batch (sym a.of_number ∙ none) quiet (omega (arith, r.0, words_length, batch_long)))
 
     pub answers_sorted :
         {after : List ℕ} → true ≡ (sort 5 1 ws batch).done → after ≡ (sort 5 1 ws batch).work →
         Answers (scored bytes batch) (record { number = 0; words = 5 * g.count; line = 0 }) after
     answers_sorted d e =
         let r = sort_done ws batch g.count words_length d in
-        answers_read bytes batch (sym a.of_number ∙ none) quiet (omega (arith, r.0, words_length, batch-long)) (sym batch-long)
-        (e ∙ r.1 ∙ ap (sets batch 0) (ap (sorted_words 5 1) words-laid ∙ sorted_batch bytes wide))
+        answers_read bytes batch (sym a.of_number ∙ none) quiet (omega (arith, r.0, words_length, batch_long)) (sym batch_long)
+        (e ∙ r.1 ∙ ap (sets batch 0) (ap (sorted_words 5 1) words_laid ∙ sorted_batch bytes wide))

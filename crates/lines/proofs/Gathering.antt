@@ -86,13 +86,13 @@ module _ {bytes l now : List ℕ} {count at end : ℕ} (u : Record) (g : Gatheri
   abbrev later : List (List ℕ)
   later = lines (drop (end + 1) bytes)
 
-  faults-line : fault bytes ≡ fault_from count (line ∷ later)
-  faults-line = g.faults ∙ ap (fault_from count) (line_at bytes at end h e)
+  faults_line : fault bytes ≡ fault_from count (line ∷ later)
+  faults_line = g.faults ∙ ap (fault_from count) (line_at bytes at end h e)
 
   -- a refusal tells its line
   faulty : (n : ℕ) → line_number count line ≡ suc n → Gathers bytes l (record { number = suc n; line = count + 1; count = 0 }) now
   faulty n k =
-      let f = faults-line ∙ fault_here count line later k in
+      let f = faults_line ∙ fault_here count line later k in
       let one : count + 1 ≡ suc count = omega arith in
       record {
         of_number = sym (ap (λ x. x.number) f);
@@ -131,7 +131,7 @@ module _ {bytes l now : List ℕ} {count at end : ℕ} (u : Record) (g : Gatheri
             ∙ ap (λ q. done ++ numbered (count + 1) (q ∷ map line_record later)) is
             ∙ ap (λ q. done ++ q) (numbered_next (count + 1) (u.kind ∷ u.term ∷ u.from ∷ u.to ∷ []) (map line_record later))
             ∙ ap (λ i. done ++ r ∷ numbered i (map line_record later)) two ∙ sym (append_assoc done (r ∷ []) (numbered (count + 1 + 1) (map line_record later)));
-        faults = faults-line ∙ fault_later count line later (number_none count line (some_words n) (omega (arith, g.few, m))) ∙ ap (λ i. fault_from i later) one;
+        faults = faults_line ∙ fault_later count line later (number_none count line (some_words n) (omega (arith, g.few, m))) ∙ ap (λ i. fault_from i later) one;
       }
 
 pub gathering_end :

@@ -183,25 +183,25 @@ module _ (r : List ℕ) {j : ℕ} (one : j ≡ 0 + before tab (drop 0 r)) where
   removal_short h = rw (fields_one r (omega (arith, one, h))) (sym (two_fields (letter_r ∷ []) r))
 
   module _ {k : ℕ} (some : j ≢ length r) (two : k ≡ j + 1 + before tab (drop (j + 1) r)) where
-    fields-first : fields r ≡ take j r ∷ fields (drop (suc j) r)
-    fields-first =
+    fields_first : fields r ≡ take j r ∷ fields (drop (suc j) r)
+    fields_first =
         let e : before tab r ≡ j = omega (arith, one) in
         let h : before tab r < length r = omega (arith, one, some, before_most tab r) in
         rw (← e) (fields_next r h)
 
     -- where the next tab stands behind the first
-    second-tab : before tab (drop (suc j) r) ≡ k - suc j
-    second-tab =
+    second_tab : before tab (drop (suc j) r) ≡ k - suc j
+    second_tab =
         let s : j + 1 ≡ suc j = omega arith in
         ap (λ i. before tab (drop i r)) (sym s) ∙ omega (arith, two)
 
-    rest-long : length (drop (suc j) r) ≡ length r - suc j
-    rest-long = length-drop (suc j) r
+    rest_long : length (drop (suc j) r) ≡ length r - suc j
+    rest_long = length-drop (suc j) r
 
     pub removal_two : k ≡ length r → [] ≡ record_of ((letter_r ∷ []) ∷ fields r)
     removal_two h =
         sym
-        (ap (λ fs. record_of ((letter_r ∷ []) ∷ fs)) (fields-first ∙ ap (λ fs. take j r ∷ fs) (fields_one (drop (suc j) r) (second-tab ∙ omega (arith, h, rest-long))))
+        (ap (λ fs. record_of ((letter_r ∷ []) ∷ fs)) (fields_first ∙ ap (λ fs. take j r ∷ fs) (fields_one (drop (suc j) r) (second_tab ∙ omega (arith, h, rest_long))))
         ∙ removal_few (take j r) (drop (suc j) r))
 
     module _ {x y z : ℕ} (more : k ≢ length r) (first : x ≡ number_in (take j r)) (second : y ≡ number_in (take (k - (j + 1)) (drop (j + 1) r))) (third : z ≡ number_in (take (length r - (k + 1)) (drop (k + 1) r))) where
@@ -209,20 +209,20 @@ module _ (r : List ℕ) {j : ℕ} (one : j ≡ 0 + before tab (drop 0 r)) where
       middle : take (k - (j + 1)) (drop (j + 1) r) ≡ take (k - suc j) (drop (suc j) r)
       middle = let s : j + 1 ≡ suc j = omega arith in rw s
 
-      fields-second : fields (drop (suc j) r) ≡ take (k - suc j) (drop (suc j) r) ∷ fields (drop (suc k) r)
-      fields-second =
+      fields_second : fields (drop (suc j) r) ≡ take (k - suc j) (drop (suc j) r) ∷ fields (drop (suc k) r)
+      fields_second =
           let rest = drop (suc j) r in
-          let h : before tab rest < length rest = omega (arith, two, more, second-tab, rest-long, before_most tab rest, some, one, before_most tab r) in
+          let h : before tab rest < length rest = omega (arith, two, more, second_tab, rest_long, before_most tab rest, some, one, before_most tab r) in
           let e : suc j + suc (k - suc j) ≡ suc k = omega (arith, two) in
           fields_next rest h
-          ∙ rw second-tab (ap (λ l. take (k - suc j) rest ∷ fields l) (drop-drop (suc (k - suc j)) (suc j) r ∙ ap (λ i. drop i r) e))
+          ∙ rw second_tab (ap (λ l. take (k - suc j) rest ∷ fields l) (drop-drop (suc (k - suc j)) (suc j) r ∙ ap (λ i. drop i r) e))
 
       record_of_removal :
           record_of ((letter_r ∷ []) ∷ fields r) ≡
           cond (is_number (take j r) && is_number (take (k - suc j) (drop (suc j) r)) && is_number (drop (suc k) r))
           (2 ∷ worth 0 (take j r) ∷ worth 0 (take (k - suc j) (drop (suc j) r)) ∷ worth 0 (drop (suc k) r) ∷ []) []
       record_of_removal =
-          ap (λ fs. record_of ((letter_r ∷ []) ∷ fs)) (fields-first ∙ ap (λ fs. take j r ∷ fs) fields-second)
+          ap (λ fs. record_of ((letter_r ∷ []) ∷ fs)) (fields_first ∙ ap (λ fs. take j r ∷ fs) fields_second)
           ∙ removal_fields (take j r) (take (k - suc j) (drop (suc j) r)) (drop (suc k) r)
 
       pub removal_refused : (eqb x word_limit || eqb y word_limit || eqb z word_limit) ≡ true → [] ≡ record_of ((letter_r ∷ []) ∷ fields r)

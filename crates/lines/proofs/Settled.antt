@@ -181,9 +181,9 @@ settle_line i b bs m h next = go (ltb (before line_feed (b ∷ bs)) 35) refl
         fault_here i (first (b ∷ bs)) (lines (behind (b ∷ bs))) e
         ∙ sym (fault_here i (first (b ∷ bs)) (lines (take (suc m - suc (before line_feed (b ∷ bs))) (behind (b ∷ bs)))) e)
 
-    still-long : 35 ≤ before line_feed (b ∷ bs) → (t : Bool) → ltb (before line_feed (b ∷ bs)) (suc m) ≡ t → 35 ≤ before line_feed (take (suc m) (b ∷ bs))
-    still-long l true t = omega (arith, l, before_take line_feed (b ∷ bs) (suc m) (ltb-true (before line_feed (b ∷ bs)) (suc m) t))
-    still-long l false t = omega (arith, h, before_cut line_feed (b ∷ bs) (suc m) (ltb-false (before line_feed (b ∷ bs)) (suc m) t))
+    still_long : 35 ≤ before line_feed (b ∷ bs) → (t : Bool) → ltb (before line_feed (b ∷ bs)) (suc m) ≡ t → 35 ≤ before line_feed (take (suc m) (b ∷ bs))
+    still_long l true t = omega (arith, l, before_take line_feed (b ∷ bs) (suc m) (ltb-true (before line_feed (b ∷ bs)) (suc m) t))
+    still_long l false t = omega (arith, h, before_cut line_feed (b ∷ bs) (suc m) (ltb-false (before line_feed (b ∷ bs)) (suc m) t))
 
     go : (t : Bool) → ltb (before line_feed (b ∷ bs)) 35 ≡ t → fault_from i (lines (b ∷ bs)) ≡ fault_from i (lines (take (suc m) (b ∷ bs)))
     go true t =
@@ -191,7 +191,7 @@ settle_line i b bs m h next = go (ltb (before line_feed (b ∷ bs)) 35) refl
         ap (fault_from i) (lines_next b bs) ∙ by_number (line_number i (first (b ∷ bs))) refl ∙ ap (fault_from i) (sym (first_take b bs m short))
     go false t =
         let l = ltb-false (before line_feed (b ∷ bs)) 35 t in
-        fault_long i b bs l ∙ sym (fault_long i b (take m bs) (still-long l (ltb (before line_feed (b ∷ bs)) (suc m)) refl))
+        fault_long i b bs l ∙ sym (fault_long i b (take m bs) (still_long l (ltb (before line_feed (b ∷ bs)) (suc m)) refl))
 
 settle_bytes :
     (i : ℕ) (bs : List ℕ) (m : ℕ) → 35 ≤ m →

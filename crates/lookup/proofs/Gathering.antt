@@ -35,8 +35,8 @@ module _ {c l now : List ℕ} {t z : ℕ} {s : Stretch} {at p b next : ℕ} {x :
   abbrev behind : List ℕ
   behind = ahead_of c t z (left s q (b - 1))
 
-  all-part : ahead_of c t z s ≡ (g.done ++ part) ++ behind
-  all-part = g.all ∙ ap (λ l. g.done ++ l) (ahead_part o h y e g.ready) ∙ sym (append_assoc g.done part behind)
+  all_part : ahead_of c t z s ≡ (g.done ++ part) ++ behind
+  all_part = g.all ∙ ap (λ l. g.done ++ l) (ahead_part o h y e g.ready) ∙ sym (append_assoc g.done part behind)
 
   -- its part has room
   pub moving_room : at + length (ahead_of c t z s) ≤ length l → next + x.len ≤ length now
@@ -45,7 +45,7 @@ module _ {c l now : List ℕ} {t z : ℕ} {s : Stretch} {at p b next : ℕ} {x :
         arith,
         moving_length g,
         g.count,
-        ap length all-part ∙ length-append (g.done ++ part) behind,
+        ap length all_part ∙ length-append (g.done ++ part) behind,
         length-append g.done part,
         length_part c x.start x.len y.inside,
       )
@@ -56,7 +56,7 @@ module _ {c l now : List ℕ} {t z : ℕ} {s : Stretch} {at p b next : ℕ} {x :
       record {
         ready = ready_behind o h y e g.ready;
         done = g.done ++ part;
-        all = all-part;
+        all = all_part;
         count = omega (arith, g.count, length-append g.done part, length_part c x.start x.len y.inside);
         same = sets_behind l at g.done part g.same refl (rw g.count at f);
       }

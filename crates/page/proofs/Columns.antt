@@ -66,8 +66,8 @@ module _ {l now : List ℕ} {at n before rest b : ℕ} (g : Figuring l at n now 
   written = set now (at + (before - 1)) b
 
   -- the figures of rest's tenth, and those that are written then
-  figures-then : decimal n ≡ leading (rest / 10) ++ b ∷ g.done
-  figures-then =
+  figures_then : decimal n ≡ leading (rest / 10) ++ b ∷ g.done
+  figures_then =
       rw last
       (g.all
       ∙ ap (λ d. d ++ g.done) (decimal_last rest)
@@ -84,7 +84,7 @@ module _ {l now : List ℕ} {at n before rest b : ℕ} (g : Figuring l at n now 
       let less = less_room before rest g.room g.some in
       record {
         done = b ∷ g.done;
-        all = figures-then ∙ ap (λ d. d ++ b ∷ g.done) (leading_some (rest / 10) h);
+        all = figures_then ∙ ap (λ d. d ++ b ∷ g.done) (leading_some (rest / 10) h);
         count = omega (arith, g.count, g.some);
         some = some_room (before - 1) (rest / 10) less h;
         room = less;
@@ -96,7 +96,7 @@ module _ {l now : List ℕ} {at n before rest b : ℕ} (g : Figuring l at n now 
   unfolding column
   figuring_end h k e =
       let figures = b ∷ g.done in
-      let whole : decimal n ≡ figures = rw (leading_none (rest / 10) h) at figures-then in
+      let whole : decimal n ≡ figures = rw (leading_none (rest / 10) h) at figures_then in
       let width : 10 - length figures ≡ before - 1 = omega (arith, g.count) in
       let blanks = replicate (before - 1) blank in
       let under = replicate (length figures) blank in

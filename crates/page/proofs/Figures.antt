@@ -56,11 +56,11 @@ column_number n = rw (number_append (replicate (10 - length (decimal n)) blank),
 any_last : (f : ℕ → Bool) (xs : List ℕ) (y : ℕ) → f y ≡ true → any f (xs ++ y ∷ []) ≡ true
 unfolding any
 any_last f [] y e = rw e
-any_last f (x ∷ xs) y e = rw (any_last f xs y e) (or-true (f x))
+any_last f (x ∷ xs) y e = rw (any_last f xs y e) (or_true (f x))
   where
-    or-true : (b : Bool) → (b || true) ≡ true
-    or-true true = refl
-    or-true false = refl
+    or_true : (b : Bool) → (b || true) ≡ true
+    or_true true = refl
+    or_true false = refl
 
 column_some : (n : ℕ) → any (λ b. not (eqb b blank)) (column n) ≡ true
 unfolding column

@@ -91,9 +91,9 @@ module _ (t : ℕ) (ps : List ℕ) (ht : t < word_limit) (hs : Words ps) where
   page_length = joined_length (line t ps) 66 (line_count ps) (λ i l. line_length i)
 
   -- a line shows its postings
-  line-shown : (i : ℕ) → positions_in_line (line t ps i) ≡ joined (λ j. single ps (5 * i + j)) 5
+  line_shown : (i : ℕ) → positions_in_line (line t ps i) ≡ joined (λ j. single ps (5 * i + j)) 5
   unfolding positions_in_line line
-  line-shown i =
+  line_shown i =
       rw (append_assoc (head_of t i) (fields_from ps (5 * i) 5) (line_feed ∷ []), drop_at (head_of t i) (fields_from ps (5 * i) 5 ++ line_feed ∷ []) 10 (head_length t i ht))
       (joined_agree (λ j. shown (part 11 j (fields_from ps (5 * i) 5 ++ line_feed ∷ []))) (λ j. single ps (5 * i + j)) 5
       (λ j l.
@@ -101,9 +101,9 @@ module _ (t : ℕ) (ps : List ℕ) (ht : t < word_limit) (hs : Words ps) where
       ∙ field_shown ps (5 * i + j)))
 
   -- the part of the page that is a line
-  page-part : (i : ℕ) → i < line_count ps → part 66 i (page t ps) ≡ line t ps i
+  page_part : (i : ℕ) → i < line_count ps → part 66 i (page t ps) ≡ line t ps i
   unfolding page
-  page-part i l =
+  page_part i l =
       ap (part 66 i) (sym (append-nil (joined (line t ps) (line_count ps))))
       ∙ part_joined (line t ps) 66 (line_count ps) i [] (λ j q. line_length j) l
 
@@ -114,7 +114,7 @@ module _ (t : ℕ) (ps : List ℕ) (ht : t < word_limit) (hs : Words ps) where
       let count : length (page t ps) / 66 ≡ n = rw page_length (omega arith) in
       rw count
       (joined_agree (λ i. positions_in_line (part 66 i (page t ps))) (λ i. joined (λ j. single ps (5 * i + j)) 5) n
-      (λ i l. ap positions_in_line (page-part i l) ∙ line-shown i)
+      (λ i l. ap positions_in_line (page_part i l) ∙ line_shown i)
       ∙ joined_rows (single ps) 5 n
       ∙ joined_singles ps (5 * n)
       ∙ take_all (5 * n) ps (lines_enough ps))
@@ -122,7 +122,7 @@ module _ (t : ℕ) (ps : List ℕ) (ht : t < word_limit) (hs : Words ps) where
   pub page_term : 0 < length ps → term_in (page t ps) ≡ t
   unfolding term_in part line
   page_term l =
-      let first : take 66 (page t ps) ≡ line t ps 0 = page-part 0 (lines_some ps l) in
+      let first : take 66 (page t ps) ≡ line t ps 0 = page_part 0 (lines_some ps l) in
       let columns : take 10 (page t ps) ≡ column t =
       sym (take-take 10 66 (page t ps) (omega arith))
       ∙ ap (take 10) (first ∙ append_assoc (column t) (fields_from ps 0 5) (line_feed ∷ []))

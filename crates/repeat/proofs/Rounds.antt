@@ -41,10 +41,10 @@ module _ {read rest : List ℕ} {at : ℕ → ℕ} (p : Parted read rest at) whe
       (none, p.seen v ∙ or_both (eqb (at v) (v + 1)) (has v rest) (ne_eqb (at v) (v + 1) (λ e. omega (arith, e, z))) none)
 
   -- it is put there
-  parted-put :
+  parted_put :
       (x : ℕ) (after : ℕ → ℕ) → at x ≡ 0 → ((v : ℕ) → ((at v ≡ 0) × (after v ≡ x + 1)) ⊎ ((v ≢ x) × (after v ≡ at v))) →
       Parted (read ++ x ∷ []) rest after
-  parted-put x after z moved =
+  parted_put x after z moved =
       record {
         same = repeats_one read x ∙ ap (λ t. repeats read || t) (absent x z).1 ∙ or-false (repeats read) ∙ p.same;
         seen = λ v. has_append v read (x ∷ []) ∙ ap (λ t. has v read || t) (has_one v x) ∙ ⊎_elim (filled v) (kept v) (moved v);
@@ -65,8 +65,8 @@ module _ {read rest : List ℕ} {at : ℕ → ℕ} (p : Parted read rest at) whe
           ∙ ap (λ a. eqb a (v + 1) || has v rest) (sym m.1)
 
   -- one that finds another is left over
-  parted-left : (x : ℕ) → at x ≢ 0 → at x ≢ x + 1 → Parted (read ++ x ∷ []) (rest ++ x ∷ []) at
-  parted-left x z d =
+  parted_left : (x : ℕ) → at x ≢ 0 → at x ≢ x + 1 → Parted (read ++ x ∷ []) (rest ++ x ∷ []) at
+  parted_left x z d =
       record {
         same =
             repeats_one read x ∙ ap₂ ◌||◌ p.same (p.seen x ∙ ap (λ t. t || has x rest) (ne_eqb (at x) (x + 1) d))
@@ -82,8 +82,8 @@ module _ {read rest : List ℕ} {at : ℕ → ℕ} (p : Parted read rest at) whe
       itself v h = let e : v ≡ x = eqb-true v x (sym (has_one v x) ∙ h) in rw e (z, d)
 
   -- one that finds itself stands twice
-  parted-found : (x : ℕ) → at x ≡ x + 1 → repeats (read ++ x ∷ []) ≡ true
-  parted-found x e =
+  parted_found : (x : ℕ) → at x ≡ x + 1 → repeats (read ++ x ∷ []) ≡ true
+  parted_found x e =
       repeats_one read x
       ∙ or_intro (repeats read) (has x read) (inr (p.seen x ∙ or_intro (eqb (at x) (x + 1)) (has x rest) (inl (eq-eqb (at x) (x + 1) e))))
 
@@ -139,7 +139,7 @@ module _ {bits size left i : ℕ} {numbers slots rest : List ℕ} (l : Leaving b
         long = l.long;
         few = omega (arith, l.few);
         many = length-set slots slot (x + 1) ∙ l.many;
-        parted = rw one_more (parted-put l.parted x (held_at bits (set slots slot (x + 1))) (rw e at z) moved);
+        parted = rw one_more (parted_put l.parted x (held_at bits (set slots slot (x + 1))) (rw e at z) moved);
       }
     where
       go : (v : ℕ) (t : Bool) → eqb (slot_of bits v) slot ≡ t →
@@ -170,7 +170,7 @@ module _ {bits size left i : ℕ} {numbers slots rest : List ℕ} (l : Leaving b
         long = length-set rest left x ∙ l.long;
         few = omega (arith, l.few);
         many = l.many;
-        parted = rw (one_more, kept) (parted-left l.parted x (rw e at z) (rw e at d));
+        parted = rw (one_more, kept) (parted_left l.parted x (rw e at z) (rw e at d));
       }
 
   pub leaving_found :
@@ -180,7 +180,7 @@ module _ {bits size left i : ℕ} {numbers slots rest : List ℕ} (l : Leaving b
         few = zero-le;
         whole =
             ap repeats (sym (take-append-drop (i + 1) numbers))
-            ∙ repeats_more (take (i + 1) numbers) (drop (i + 1) numbers) (rw one_more (parted-found l.parted x (rw e at h)));
+            ∙ repeats_more (take (i + 1) numbers) (drop (i + 1) numbers) (rw one_more (parted_found l.parted x (rw e at h)));
       }
 
 pub leaving_end :

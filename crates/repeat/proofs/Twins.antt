@@ -181,13 +181,13 @@ putting_turn {numbers} {size} {records} {i} p more room =
       within = omega arith;
       long = length-set one (2 * i + 1) x ∙ long;
       stand =
-          ap (λ l. map (key_at 0) l) (records-one both i) ∙ map-append (key_at 0) (records_from 2 both 0 i) (record_at 2 both i ∷ [])
+          ap (λ l. map (key_at 0) l) (records_one both i) ∙ map-append (key_at 0) (records_from 2 both 0 i) (record_at 2 both i ∷ [])
           ∙ ap₂ (λ l y. map (key_at 0) l ++ y ∷ []) kept last ∙ ap (λ l. l ++ x ∷ []) p.stand
           ∙ sym (ap (λ k. take k numbers) (add-one i) ∙ take-suc numbers i 0 more);
     }
   where
-    records-one : (ws : List ℕ) (i : ℕ) → records_from 2 ws 0 (i + 1) ≡ records_from 2 ws 0 i ++ record_at 2 ws i ∷ []
-    records-one ws i = let o : 0 + i ≡ i = omega arith in records_append 2 ws i 1 0 ∙ rw o (ap (λ l. records_from 2 ws 0 i ++ l) (records_first ws i))
+    records_one : (ws : List ℕ) (i : ℕ) → records_from 2 ws 0 (i + 1) ≡ records_from 2 ws 0 i ++ record_at 2 ws i ∷ []
+    records_one ws i = let o : 0 + i ≡ i = omega arith in records_append 2 ws i 1 0 ∙ rw o (ap (λ l. records_from 2 ws 0 i ++ l) (records_first ws i))
 
 pub putting_end :
     {numbers : List ℕ} {size : ℕ} {records : List ℕ} {i : ℕ} → Putting numbers size records i → length numbers ≤ i →

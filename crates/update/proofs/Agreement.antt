@@ -120,9 +120,9 @@ module _ (c b : List ℕ) (wc : Words c) (wb : Words b) (a : Accepted c b) where
   low = omega (arith, f.size_low)
 
   -- the first two writes leave the forecast as it is
-  ahead-alike : (d : List ℕ) → Alike c d → Ahead 0 (forecast c b) (forecast d b)
+  ahead_alike : (d : List ℕ) → Alike c d → Ahead 0 (forecast c b) (forecast d b)
   unfolding outlook step_limit
-  ahead-alike d e =
+  ahead_alike d e =
       let g = blocks (block_size c) r in
       let w = free_writes c g (length_of_new c) r in
       rw (
@@ -139,20 +139,20 @@ module _ (c b : List ℕ) (wc : Words c) (wb : Words b) (a : Accepted c b) where
     abbrev d : List ℕ
     d = written c r 3
 
-    new-on : length_of_new d ≡ suc (length_of_new c)
+    new_on : length_of_new d ≡ suc (length_of_new c)
     unfolding grown
-    new-on =
+    new_on =
         rw (configuration_on c r f m ready on, segments_new c _ _ (grown c r) _ f, ne_eqb (length r) 0 (omega (arith, goes_on_some (block_size c) r on)))
         (omega arith)
 
-    rest-rising : rising_from (last 0 (due (block_size c) r)) rest ≡ true
+    rest_rising : rising_from (last 0 (due (block_size c) r)) rest ≡ true
     unfolding due
-    rest-rising = rw (last_some (due (block_size c) r) 0 (boundary c) (some c r f m ready on)) (rising_rest (fitting (block_size c) 0 r) r (boundary c) m.rising)
+    rest_rising = rw (last_some (due (block_size c) r) 0 (boundary c) (some c r f m ready on)) (rising_rest (fitting (block_size c) 0 r) r (boundary c) m.rising)
 
     -- a configuration write that goes on takes one block from it, and one write
-    ahead-on : Ahead 1 (forecast c b) (forecast d b)
+    ahead_on : Ahead 1 (forecast c b) (forecast d b)
     unfolding outlook step_limit
-    ahead-on =
+    ahead_on =
         let g = blocks (block_size c) rest in
         let w = free_writes c g (suc (length_of_new c)) rest in
         let one : 0 < g = blocks_some (block_size c) rest (goes_on_rest (block_size c) r on) in
@@ -163,26 +163,26 @@ module _ (c b : List ℕ) (wc : Words c) (wb : Words b) (a : Accepted c b) where
           outlook_first c r low m.proper (goes_on_some (block_size c) r on),
           a.free,
           configuration_size c r f m ready a.free,
-          new-on,
-          free_writes_beyond (last 0 (due (block_size c) r)) c d (beyond_on c r f m ready on) g (suc (length_of_new c)) rest rest-rising,
+          new_on,
+          free_writes_beyond (last 0 (due (block_size c) r)) c d (beyond_on c r f m ready on) g (suc (length_of_new c)) rest rest_rising,
         )
         (ahead 1 g w (step_limit (block_size c) rest) (suc g) (suc w) _ (omega arith) (omega arith) (omega arith) refl)
 
   -- a step that does not finish the pass is ahead of the forecast by what it writes
   ahead_step : (step c b).finished ≡ false → Ahead (configurations (step c b)) (forecast c b) (forecast (step c b).card b)
   unfolding taken the_write
-  ahead_step = rw (step_taken c b (accepting c b a)) (by_next_write c r P (λ h q. ahead-alike _ (written_first_alike c r f)) (λ h p q. ahead-alike _ (written_second_alike c r f)) third)
+  ahead_step = rw (step_taken c b (accepting c b a)) (by_next_write c r P (λ h q. ahead_alike _ (written_first_alike c r f)) (λ h p q. ahead_alike _ (written_second_alike c r f)) third)
     where
       P : ℕ → Type 0
       P w = (taken c r w).finished ≡ false → Ahead (configurations (taken c r w)) (forecast c b) (forecast (written c r w) b)
 
       third : (0 < length r → DueWritten c r) → P 3
-      third ready q = ahead-on ready (not-false (goes_on (block_size c) r) q)
+      third ready q = ahead_on ready (not-false (goes_on (block_size c) r) q)
 
   -- at the step that finishes it the forecast is that it does
-  finishes-step : (step c b).finished ≡ true → (configurations (step c b) ≡ 1) × (foretold (forecast c b) ≡ record { number = 0; finished = true; writes = 1 })
+  finishes_step : (step c b).finished ≡ true → (configurations (step c b) ≡ 1) × (foretold (forecast c b) ≡ record { number = 0; finished = true; writes = 1 })
   unfolding taken
-  finishes-step =
+  finishes_step =
       rw (step_taken c b (accepting c b a), forecast_sound c b a.sound a.in_order)
       (λ q. (
         rw (and_left (eqb (next_write c r) 3) (not (goes_on (block_size c) r)) q),
@@ -219,7 +219,7 @@ runs (suc n) c b wb o wc j l = go (λ d. runs n d b wb o) (crowded c r) refl
 
         ends : (t : Bool) → (step c b).finished ≡ t →
             after_writes (configurations (step c b)) (cond t (record { number = 0; finished = true; writes = 0 }) (uncut n (step c b).card b)) ≡ foretold (forecast c b)
-        ends true q = let h = finishes-step c b wc wb a q in rw (h.0, h.1)
+        ends true q = let h = finishes_step c b wc wb a q in rw (h.0, h.1)
         ends false q =
             let g = going c b wc wb (accepting c b a) q in
             rw (ih (step c b).card g.words g.sound (omega arith)) (ahead_step c b wc wb a q).comes

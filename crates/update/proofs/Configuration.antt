@@ -126,9 +126,9 @@ module _ (c r : List ℕ) (f : Facts c) (m : Remaining c r) (ready : 0 < length 
     unfolding next_boundary
     next_boundary_end = rw end
 
-    room-end : crowded c r ≡ false → grown c r < place_count c
+    room_end : crowded c r ≡ false → grown c r < place_count c
     unfolding grown
-    room-end free = go (eqb (length r) 0) refl
+    room_end free = go (eqb (length r) 0) refl
       where
         go : (t : Bool) → eqb (length r) 0 ≡ t → grown c r < place_count c
         go true e = rw e (omega (arith, f.room))
@@ -140,7 +140,7 @@ module _ (c r : List ℕ) (f : Facts c) (m : Remaining c r) (ready : 0 < length 
     unfolding around blocks_sound pairs_at rising_from last
     fit_end free =
         record {
-          room = omega (arith, room-end free);
+          room = omega (arith, room_end free);
           bound = λ h. absurd (omega arith);
           new_sound = refl;
           old_sound = grows.sound;

@@ -67,21 +67,21 @@ module _ {c b ws : List ℕ} {p : Packing} {k : ℕ} {r : Merge} (g : Fills c b 
       (rw (append-nil, ← g.holds.sized) (size_none g.ks)))
 
   module _ (n : r.rank ≡ 0 → ⊥) (q : Remaining c (remains c b)) where
-    next-split : remains c b ≡ g.ks ++ r.rank ∷ left c b r.rank
-    next-split = g.split ∙ ap (λ l. g.ks ++ l) (m.next ∙ rw (ne_eqb r.rank 0 n))
+    next_split : remains c b ≡ g.ks ++ r.rank ∷ left c b r.rank
+    next_split = g.split ∙ ap (λ l. g.ks ++ l) (m.next ∙ rw (ne_eqb r.rank 0 n))
 
-    next-proper : Proper r.rank
-    next-proper = (each_second Proper g.ks (r.rank ∷ left c b r.rank) (rw next-split at q.proper)).0
+    next_proper : Proper r.rank
+    next_proper = (each_second Proper g.ks (r.rank ∷ left c b r.rank) (rw next_split at q.proper)).0
 
     -- the next pair has no room: it stands beyond the due block
     pub fills_full : has_room (length ws) p r.rank ≡ false → Answers c (remains c b) ws (record { used = p.used; last = p.last; more = true })
     fills_full h =
         let l : length ws < p.used + cost (term p.last) r.rank
-        = leb-false (p.used + cost (term p.last) r.rank) (length ws) (sym (holds_room g.holds r.rank next-proper (omega (arith, g.long, f.size_high))) ∙ h) in
+        = leb-false (p.used + cost (term p.last) r.rank) (length ws) (sym (holds_room g.holds r.rank next_proper (omega (arith, g.long, f.size_high))) ∙ h) in
         let w : eqb p.used 0 ≡ eqb (length (g.ks ++ r.rank ∷ left c b r.rank)) 0
         = ne_eqb p.used 0 (λ z. omega (arith, cost_high (term p.last) r.rank, f.size_low, g.long))
         ∙ sym (ne_eqb (length (g.ks ++ r.rank ∷ left c b r.rank)) 0 (omega (arith, length-append g.ks (r.rank ∷ left c b r.rank)))) in
-        rw next-split
+        rw next_split
         (answering g.holds g.long
         (filled_full (block_size c) g.ks r.rank (left c b r.rank) (omega (arith, g.holds.sized, g.holds.inside, g.long))
         (rw (g.holds.sized, g.holds.last_pair, ← g.long) (omega arith))) w)
@@ -92,8 +92,8 @@ module _ {c b ws : List ℕ} {p : Packing} {k : ℕ} {r : Merge} (g : Fills c b 
         record {
           ks = g.ks ++ r.rank ∷ [];
           long = length_put ws p r.rank ∙ g.long;
-          split = next-split ∙ sym (append_assoc g.ks (r.rank ∷ []) (left c b r.rank));
-          holds = holds_put g.holds r.rank next-proper h;
+          split = next_split ∙ sym (append_assoc g.ks (r.rank ∷ []) (left c b r.rank));
+          holds = holds_put g.holds r.rank next_proper h;
         }
 
     -- the measure falls

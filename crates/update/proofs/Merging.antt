@@ -57,21 +57,21 @@ pub record Turn (c b : List ℕ) (m : Merge) (q : OldCursor) (a : Addition) (x :
   pub pair : x ≡ lesser a.rank q.rank
 
 module _ {c b : List ℕ} {m : Merge} {q : OldCursor} {a : Addition} {x : ℕ} (g : Merges c b m) (t : Turn c b m q a x) where
-  old-first : first_above m.rank (live c) ≡ q.rank
-  old-first = unfold first_above in ap (λ l. get_or l 0 0) (g.olds ∙ sym t.skipped.next) ∙ first_pending c q
+  old_first : first_above m.rank (live c) ≡ q.rank
+  old_first = unfold first_above in ap (λ l. get_or l 0 0) (g.olds ∙ sym t.skipped.next) ∙ first_pending c q
 
-  added-first : least_added m.rank (updates b) ≡ a.rank
+  added_first : least_added m.rank (updates b) ≡ a.rank
   unfolding next_addition
-  added-first =
+  added_first =
       let us = drop m.addition (updates b) in
       let o = falls_drop m.addition (updates b) 0 (in_order b t.in_order).ordered in
       g.adds m.rank (omega arith) ∙ rw t.addition (sym (first_added_least us 0 m.rank o))
 
   first : first_above m.rank (with_added (updates b) (live c)) ≡ x
-  first = first_above_with_added m.rank (updates b) (live c) ∙ rw (old-first, added-first) (sym t.pair)
+  first = first_above_with_added m.rank (updates b) (live c) ∙ rw (old_first, added_first) (sym t.pair)
 
-  live-rises : rises (live c) ≡ true
-  live-rises = rises_from (live c) 0 (live_rising c t.sound)
+  live_rises : rises (live c) ≡ true
+  live_rises = rises_from (live c) 0 (live_rising c t.sound)
 
   -- no pair is left
   pub turn_end : x ≡ 0 → left c b m.rank ≡ []
@@ -79,43 +79,43 @@ module _ {c b : List ℕ} {m : Merge} {q : OldCursor} {a : Addition} {x : ℕ} (
 
   module _ (n : x ≡ 0 → ⊥) where
     -- what is left starts with the next pair, unless it is withdrawn
-    turn-left : left c b m.rank ≡ cond (not (withdrawn (updates b) x)) (x ∷ left c b x) (left c b x)
-    turn-left = applied_turn m.rank x (updates b) (live c) live-rises first (omega arith)
+    turn_left : left c b m.rank ≡ cond (not (withdrawn (updates b) x)) (x ∷ left c b x) (left c b x)
+    turn_left = applied_turn m.rank x (updates b) (live c) live_rises first (omega arith)
 
     -- the pairs of the set with the added ones start with it too
-    rest-next : above m.rank (with_added (updates b) (live c)) ≡ x ∷ above x (with_added (updates b) (live c))
-    rest-next = go (above m.rank (with_added (updates b) (live c))) refl (unfold first_above in first)
+    rest_next : above m.rank (with_added (updates b) (live c)) ≡ x ∷ above x (with_added (updates b) (live c))
+    rest_next = go (above m.rank (with_added (updates b) (live c))) refl (unfold first_above in first)
       where
         go : (ys : List ℕ) → above m.rank (with_added (updates b) (live c)) ≡ ys → get_or ys 0 0 ≡ x → ys ≡ x ∷ above x (with_added (updates b) (live c))
         go [] e h = absurd (n (sym h))
-        go (y ∷ ys) e h = rw (sym (rises_next (with_added (updates b) (live c)) m.rank y ys (rises_with_added (updates b) (live c) live-rises) e)) (rw h refl)
+        go (y ∷ ys) e h = rw (sym (rises_next (with_added (updates b) (live c)) m.rank y ys (rises_with_added (updates b) (live c) live_rises) e)) (rw h refl)
 
-    next-above : m.rank < x
-    next-above = (rw rest-next at (each_above m.rank (with_added (updates b) (live c)))).0
+    next_above : m.rank < x
+    next_above = (rw rest_next at (each_above m.rank (with_added (updates b) (live c)))).0
 
     -- the measure falls
     pub turn_less : length (above x (with_added (updates b) (live c))) < length (above m.rank (with_added (updates b) (live c)))
-    turn_less = rw rest-next (omega arith)
+    turn_less = rw rest_next (omega arith)
 
     -- what is decided of it, and the place at it
     module _ (d : Decision) (e : d ≡ decided b (round_reaches (updates b)) m.decisions x) where
       decides : d.withdrawn ≡ withdrawn (updates b) x
-      decides = rw e (follows_withdrawn g.decides t.in_order x (omega (arith, next-above)) (omega arith))
+      decides = rw e (follows_withdrawn g.decides t.in_order x (omega (arith, next_above)) (omega arith))
 
       pub turn_kept : d.withdrawn ≡ false → left c b m.rank ≡ x ∷ left c b x
-      turn_kept z = turn-left ∙ rw (sym decides ∙ z)
+      turn_kept z = turn_left ∙ rw (sym decides ∙ z)
 
       pub turn_withdrawn : d.withdrawn ≡ true → left c b m.rank ≡ left c b x
-      turn_withdrawn z = turn-left ∙ rw (sym decides ∙ z)
+      turn_withdrawn z = turn_left ∙ rw (sym decides ∙ z)
 
       pub turn_merges : Merges c b (record { rank = x; old = q; addition = a.at; decisions = d.cursor })
       unfolding next_addition
       turn_merges =
           record {
             stands = t.skipped.stands;
-            olds = sym (above_further m.rank x (live c) (omega (arith, next-above))) ∙ ap (above x) (g.olds ∙ sym t.skipped.next);
-            adds = λ j h. further j (omega (arith, next-above));
-            decides = rw e (follows_next g.decides (round_reaches (updates b)) x (omega (arith, next-above)));
+            olds = sym (above_further m.rank x (live c) (omega (arith, next_above))) ∙ ap (above x) (g.olds ∙ sym t.skipped.next);
+            adds = λ j h. further j (omega (arith, next_above));
+            decides = rw e (follows_next g.decides (round_reaches (updates b)) x (omega (arith, next_above)));
           }
         where
           -- no further record is passed over than adds nothing above the pair in hand

@@ -100,11 +100,11 @@ remains_next_law c b f wc wb e ready free on = opened ∙ local ∙ beyond
     m : Remaining c r
     m = remaining c b f wc wb e
 
-    above-mark : boundary c ≤ k
-    above-mark = mark_above c r f m ready on
+    above_mark : boundary c ≤ k
+    above_mark = mark_above c r f m ready on
 
-    mark-is : last (boundary c) (due (block_size c) r) ≡ k
-    mark-is = last_some (due (block_size c) r) (boundary c) 0 (some c r f m ready on)
+    mark_is : last (boundary c) (due (block_size c) r) ≡ k
+    mark_is = last_some (due (block_size c) r) (boundary c) 0 (some c r f m ready on)
 
     opened : remains d b ≡ above k (applied us (live d))
     opened = remains_is d b k (configuration_boundary c r f m ready free ∙ next_boundary_on c r f m ready on)
@@ -115,8 +115,8 @@ remains_next_law c b f wc wb e ready free on = opened ∙ local ∙ beyond
           live_on c r f m ready on,
           above_append,
           above_append,
-          above_at_most_none (boundary c) k (live c) above-mark,
-          above_none (due (block_size c) r) k (boundary c) (rising_due (block_size c) (boundary c) r m.rising) (omega (arith, mark-is)),
+          above_at_most_none (boundary c) k (live c) above_mark,
+          above_none (due (block_size c) r) k (boundary c) (rising_due (block_size c) (boundary c) r m.rising) (omega (arith, mark_is)),
           above_above k k (live c) (omega arith),
         )
 
@@ -127,5 +127,5 @@ remains_next_law c b f wc wb e ready free on = opened ∙ local ∙ beyond
 
     beyond : above k (applied us (live c)) ≡ drop (fitting (block_size c) 0 r) r
     beyond =
-        sym (above_further (boundary c) k (applied us (live c)) above-mark) ∙ ap (above k) (sym (remains_is c b (boundary c) refl))
-        ∙ ap (λ j. above j r) (sym mark-is) ∙ above_due (block_size c) (boundary c) r m.rising
+        sym (above_further (boundary c) k (applied us (live c)) above_mark) ∙ ap (above k) (sym (remains_is c b (boundary c) refl))
+        ∙ ap (λ j. above j r) (sym mark_is) ∙ above_due (block_size c) (boundary c) r m.rising

@@ -64,15 +64,15 @@ first_two (a ∷ []) x h = absurd (omega arith)
 first_two (a ∷ b ∷ ws) x h = refl
 
 module _ {c : List ℕ} {k : Configuration} {r ws : List ℕ} {d : Due} {n : ℕ} (f : Facts c) (o : Ordered c k) (a : Answers c r ws d) (w : Freed c d n) where
-  is-freed : n ≡ freed c r
-  is-freed = w.of r ws a
+  is_freed : n ≡ freed c r
+  is_freed = w.of r ws a
 
   -- the configuration that follows has the words of the configuration write
-  followed-words : (g : ℕ) → g ≡ grown c r →
+  followed_words : (g : ℕ) → g ≡ grown c r →
       let q = followed k d n g in
       configuration_list q.format q.size q.places q.old_start q.old_length q.new_length q.boundary ≡ configuration c r
   unfolding followed configuration configured
-  followed-words g e = rw (place_on_law o k.old_start n, o.of_format, o.of_size, o.of_places, o.of_start, o.of_old, is-freed, e, a.beyond, a.last_pair) (go (goes_on (block_size c) r) refl)
+  followed_words g e = rw (place_on_law o k.old_start n, o.of_format, o.of_size, o.of_places, o.of_start, o.of_old, is_freed, e, a.beyond, a.last_pair) (go (goes_on (block_size c) r) refl)
     where
       go : (t : Bool) → goes_on (block_size c) r ≡ t →
           configured c (start_of_old c + freed c r) (cond t (length_of_old c - freed c r) (grown c r)) (cond t (grown c r) 0) (cond t (last 0 (due (block_size c) r)) 0)
@@ -89,9 +89,9 @@ module _ {c : List ℕ} {k : Configuration} {r ws : List ℕ} {d : Due} {n : ℕ
       let ws = configuration_list q.format q.size q.places q.old_start q.old_length q.new_length q.boundary in
       rw (free, next)
       (record {
-        answer = rw (is-freed, a.beyond);
+        answer = rw (is_freed, a.beyond);
         start = refl;
-        words = rw (le-ltb (length es) 8 (omega (arith, f.size_low))) (part_sets_same ws es 0 (omega (arith, f.size_low)) ∙ followed-words g e);
+        words = rw (le-ltb (length es) 8 (omega (arith, f.size_low))) (part_sets_same ws es 0 (omega (arith, f.size_low)) ∙ followed_words g e);
         inside = omega (arith, f.long);
       })
 
@@ -112,7 +112,7 @@ module _ {c : List ℕ} {k : Configuration} {r ws : List ℕ} {d : Due} {n : ℕ
 
     crowds : crowded c r ≡ leb (place_count c) (length_of_old c - n + (length_of_new c + 1))
     unfolding crowded
-    crowds = rw (some, is-freed, grown_some) (go (goes_on (block_size c) r) refl)
+    crowds = rw (some, is_freed, grown_some) (go (goes_on (block_size c) r) refl)
       where
         go : (t : Bool) → goes_on (block_size c) r ≡ t →
             leb (place_count c) (cond t (length_of_old c - freed c r) 0 + grown c r) ≡ leb (place_count c) (length_of_old c - freed c r + grown c r)

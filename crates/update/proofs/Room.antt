@@ -82,9 +82,9 @@ module _ (g : ℕ → Bool) (c : List ℕ) (k : ℕ) (w : Words c) (low : 3 ≤ 
   kept_rising is j r = rising_keep g (above k (pairs_at c is)) k (rising_above (pairs_at c is) j k r)
 
   -- what is kept of the first block is due: nothing of it stays above the last due pair
-  first-moves : (i : ℕ) (is : List ℕ) (j : ℕ) → rising_from j (pairs_at c (i ∷ is)) ≡ true → 0 < length (Kept g c k (i ∷ is)) →
+  first_moves : (i : ℕ) (is : List ℕ) (j : ℕ) → rising_from j (pairs_at c (i ∷ is)) ≡ true → 0 < length (Kept g c k (i ∷ is)) →
       keep g (above (Last g c k (i ∷ is)) (pairs (place c i))) ≡ []
-  first-moves i is j r s =
+  first_moves i is j r s =
       let rises : rising_from k (Kept g c k (i ∷ is)) ≡ true = kept_rising (i ∷ is) j r in
       let past : k ≤ Last g c k (i ∷ is) = due_high (block_size c) k (Kept g c k (i ∷ is)) low s rises in
       ap (keep g) (sym (above_further k (Last g c k (i ∷ is)) (pairs (place c i)) past))
@@ -92,10 +92,10 @@ module _ (g : ℕ → Bool) (c : List ℕ) (k : ℕ) (w : Words c) (low : 3 ≤ 
       ∙ rw (kept_cons g c k i is) (due_covers (block_size c) k (keep g (above k (pairs (place c i)))) (Kept g c k is) low (kept_size g c k i w) (rw (kept_cons g c k i is) at s) (rw (kept_cons g c k i is) at rises))
 
   -- where nothing is kept of the first block, all that is due lies above its pairs
-  first-passed : (i : ℕ) (is : List ℕ) (j : ℕ) → rising_from j (pairs_at c (i ∷ is)) ≡ true → 0 < length (Kept g c k (i ∷ is)) →
+  first_passed : (i : ℕ) (is : List ℕ) (j : ℕ) → rising_from j (pairs_at c (i ∷ is)) ≡ true → 0 < length (Kept g c k (i ∷ is)) →
       keep g (above k (pairs (place c i))) ≡ [] → above (Last g c k (i ∷ is)) (pairs (place c i)) ≡ []
   unfolding pairs_at above
-  first-passed i is j r s e =
+  first_passed i is j r s e =
       let p : List ℕ = pairs (place c i) in
       let rest : Kept g c k (i ∷ is) ≡ Kept g c k is = rw (kept_cons g c k i is, e) in
       let rises : rising_from (last j p) (Kept g c k is) ≡ true
@@ -104,11 +104,11 @@ module _ (g : ℕ → Bool) (c : List ℕ) (k : ℕ) (w : Words c) (low : 3 ≤ 
       (rw rest (due_high (block_size c) (last j p) (Kept g c k is) low (rw rest at s) rises))
 
   -- with nothing kept of its first block, the first place is spent
-  done-spent : (i : ℕ) (is : List ℕ) (j : ℕ) → rising_from j (pairs_at c (i ∷ is)) ≡ true → 0 < length (Kept g c k (i ∷ is)) →
+  done_spent : (i : ℕ) (is : List ℕ) (j : ℕ) → rising_from j (pairs_at c (i ∷ is)) ≡ true → 0 < length (Kept g c k (i ∷ is)) →
       FirstDone g c k (i ∷ is) → 1 ≤ spent c (Last g c k (i ∷ is)) (i ∷ is)
   unfolding spent above
-  done-spent i is j r s e =
-      rw (any_none (ltb (Last g c k (i ∷ is))) (pairs (place c i)) (first-passed i is j r s e)) (omega arith)
+  done_spent i is j r s e =
+      rw (any_none (ltb (Last g c k (i ∷ is))) (pairs (place c i)) (first_passed i is j r s e)) (omega arith)
 
   -- and what is kept of the next block is all due
   done_next : (i : ℕ) (is : List ℕ) (j : ℕ) → rising_from j (pairs_at c (i ∷ is)) ≡ true → 0 < length (Kept g c k (i ∷ is)) →
@@ -119,7 +119,7 @@ module _ (g : ℕ → Bool) (c : List ℕ) (k : ℕ) (w : Words c) (low : 3 ≤ 
       go : (os : List ℕ) → rising_from (last j (pairs (place c i))) (pairs_at c os) ≡ true → Kept g c k (i ∷ os) ≡ Kept g c k os →
           0 < length (Kept g c k (i ∷ os)) → FirstDone g c (Last g c k (i ∷ os)) os
       go [] v h l = absurd (let z : 0 < 0 = rw (h ∙ kept_none g c k) at l in omega arith)
-      go (o ∷ os) v h l = rw h (first-moves o os (last j (pairs (place c i))) v (rw h at l))
+      go (o ∷ os) v h l = rw h (first_moves o os (last j (pairs (place c i))) v (rw h at l))
 
   -- where every pair is kept the first place is spent
   pub whole_spent : (i : ℕ) (is : List ℕ) (j : ℕ) → ((x : ℕ) → g x ≡ true) → rising_from j (pairs_at c (i ∷ is)) ≡ true →
@@ -128,7 +128,7 @@ module _ (g : ℕ → Bool) (c : List ℕ) (k : ℕ) (w : Words c) (low : 3 ≤ 
   whole_spent i is j a r s =
       let k : ℕ = Last g c k (i ∷ is) in
       let none : above k (pairs (place c i)) ≡ []
-      = rw (keep_all g (above k (pairs (place c i))) (each_all _ a (above k (pairs (place c i))))) at (first-moves i is j r s) in
+      = rw (keep_all g (above k (pairs (place c i))) (each_all _ a (above k (pairs (place c i))))) at (first_moves i is j r s) in
       rw (any_none (ltb k) (pairs (place c i)) none) (omega arith)
 
   -- a write that goes on leaves a place free, and Room again
@@ -141,10 +141,10 @@ module _ (g : ℕ → Bool) (c : List ℕ) (k : ℕ) (w : Words c) (low : 3 ≤ 
     where
       go : (p : ℕ) → spent c (Last g c k (i ∷ is)) (i ∷ is) ≡ p → p ≤ length (i ∷ is) →
           (length (i ∷ is) - p + (n + 1) < m) × Room g c (Last g c k (i ∷ is)) (drop p (i ∷ is)) (n + 1) m
-      go zero e l = (omega arith, inr (first-moves i is j r s))
+      go zero e l = (omega arith, inr (first_moves i is j r s))
       go (suc p) e l = (omega arith, inl (rw (length-drop p is) (omega arith)))
   room_next (i ∷ is) n m j r s f (inr done) =
-      go (spent c (Last g c k (i ∷ is)) (i ∷ is)) (done-spent i is j r s done) (spent_length c (Last g c k (i ∷ is)) (i ∷ is))
+      go (spent c (Last g c k (i ∷ is)) (i ∷ is)) (done_spent i is j r s done) (spent_length c (Last g c k (i ∷ is)) (i ∷ is))
     where
       go : (p : ℕ) → 1 ≤ p → p ≤ length (i ∷ is) →
           (length (i ∷ is) - p + (n + 1) < m) × Room g c (Last g c k (i ∷ is)) (drop p (i ∷ is)) (n + 1) m

@@ -79,17 +79,17 @@ room_for_configuration b c f w o h =
     is : List ℕ
     is = old_places c
 
-    length-is : length is ≡ length_of_old c
-    length-is = length_around (place_count c) _ (length_of_old c)
+    length_is : length is ≡ length_of_old c
+    length_is = length_around (place_count c) _ (length_of_old c)
 
     room : length is + length_of_new c < place_count c
-    room = rw length-is f.room
+    room = rw length_is f.room
 
     gone : ℕ
     gone = spent c (Last g c k is) is
 
     few : gone ≤ length_of_old c
-    few = rw length-is at (spent_length c (Last g c k is) is)
+    few = rw length_is at (spent_length c (Last g c k is) is)
 
     go : (t : Bool) → goes_on (block_size c) (Kept g c k is) ≡ t → RoomFor b (written c (Kept g c k is) 3)
     go true on =

@@ -83,18 +83,18 @@ module _ {c b : List ℕ} {m : Merge} {o : OldCursor} (f : Facts c) (g : Merges 
   abbrev us : List Update
   us = updates b
 
-  to-come : coming c m.old ≡ o.rank ∷ coming c o
-  to-come = sym advanced.next ∙ (unfold pending in rw (ne_eqb o.rank 0 (omega arith)))
+  to_come : coming c m.old ≡ o.rank ∷ coming c o
+  to_come = sym advanced.next ∙ (unfold pending in rw (ne_eqb o.rank 0 (omega arith)))
 
   pub one_above : m.rank < o.rank
-  one_above = rising_head o.rank (coming c o) m.rank (rw (← hand, ← to-come) g.stands.rising)
+  one_above = rising_head o.rank (coming c o) m.rank (rw (← hand, ← to_come) g.stands.rising)
 
-  old-first : first_above m.rank (live c) ≡ o.rank
-  old-first = unfold first_above in ap (λ l. get_or l 0 0) (live_coming g hand h ∙ to-come)
+  old_first : first_above m.rank (live c) ≡ o.rank
+  old_first = unfold first_above in ap (λ l. get_or l 0 0) (live_coming g hand h ∙ to_come)
 
   pub one_left : ((y : ℕ) → m.rank < y → y ≤ o.rank → any_update (adds y) us ≡ false) → withdrawn us o.rank ≡ false → left c b m.rank ≡ o.rank ∷ left c b o.rank
   one_left absent kept =
-      applied_turn m.rank o.rank us (live c) (rises_from (live c) 0 (live_rising c f)) (first_above_with_added m.rank us (live c) ∙ rw old-first least) some
+      applied_turn m.rank o.rank us (live c) (rises_from (live c) 0 (live_rising c f)) (first_above_with_added m.rank us (live c) ∙ rw old_first least) some
       ∙ rw kept
     where
       a : ℕ

@@ -105,21 +105,21 @@ module _ {c b : List ℕ} {k bound addition : ℕ} {d : Cursor} {o : OldCursor} 
   higher : first.rank ≤ whole.rank
   higher = (alongs c first first.count entry_stands_law (omega arith)).above
 
-  of-term : term first.rank ≡ first.term
+  of_term : term first.rank ≡ first.term
   unfolding entry_read Words
-  of-term = let word : get_or c (o.at + 2) 0 < 4294967296 = w (o.at + 2) in omega arith
+  of_term = let word : get_or c (o.at + 2) 0 < 4294967296 = w (o.at + 2) in omega arith
 
-  last-term : (n : ℕ) → first.count ≡ n → term whole.rank ≡ first.term
+  last_term : (n : ℕ) → first.count ≡ n → term whole.rank ≡ first.term
   unfolding Words along
-  last-term zero q = rw q of-term
-  last-term (suc n) q =
+  last_term zero q = rw q of_term
+  last_term (suc n) q =
       let word : get_or c (first.at + first.count - 1) 0 < 4294967296 = w (first.at + first.count - 1) in
       rw (along_some c first first.count (omega arith)) (omega arith)
 
-  last-position : (n : ℕ) → first.count ≡ n → (j : ℕ) → j < first.count → get_or c (first.at + j) 0 ≤ position whole.rank
+  last_position : (n : ℕ) → first.count ≡ n → (j : ℕ) → j < first.count → get_or c (first.at + j) 0 ≤ position whole.rank
   unfolding Words
-  last-position zero q j l = absurd (omega arith)
-  last-position (suc n) q j l =
+  last_position zero q j l = absurd (omega arith)
+  last_position (suc n) q j l =
       let word : get_or c (first.at + first.count - 1) 0 < 4294967296 = w (first.at + first.count - 1) in
       rw (along_some c first first.count (omega arith)) (omega (arith, positions_high entry_stands_law j l))
 
@@ -142,21 +142,21 @@ module _ {c b : List ℕ} {k bound addition : ℕ} {d : Cursor} {o : OldCursor} 
 
     pub entry_runs : Runs c b place first.count
     entry_runs =
-        (going s w there refl some of-term (position whole.rank)
-        (λ y l t m. free y (omega (arith, g.further, up)) (omega (arith, t, of-term, last-term first.count refl)))
-        first.count (omega arith) (last-position first.count refl)).0
+        (going s w there refl some of_term (position whole.rank)
+        (λ y l t m. free y (omega (arith, g.further, up)) (omega (arith, t, of_term, last_term first.count refl)))
+        first.count (omega arith) (last_position first.count refl)).0
 
-    place-whole : (n : ℕ) → first.count ≡ n → place_along c place first.count ≡ record { rank = whole.rank; old = whole; addition = addition; decisions = d }
+    place_whole : (n : ℕ) → first.count ≡ n → place_along c place first.count ≡ record { rank = whole.rank; old = whole; addition = addition; decisions = d }
     unfolding place_along along
-    place-whole zero q = rw q refl
-    place-whole (suc n) q = place_along_some c place first.count (omega arith)
+    place_whole zero q = rw q refl
+    place_whole (suc n) q = place_along_some c place first.count (omega arith)
 
     pub entry_addable : batch_number b ≡ 0 → Addable c f first.rank first.at first.count
     entry_addable n = packs_addable g.packs entry_merged (λ q. omega arith) entry_runs s n (packs_few g.packs s w n)
 
     pub sweeps_turn : (r : Filling) → Added c f first.rank first.at first.count r → Sweeps c b k bound addition d whole r whole.rank
     sweeps_turn r a =
-        let p = place-whole first.count refl in
+        let p = place_whole first.count refl in
         record {
           packs = subst (λ (m : Merge). Packs c b r m.rank) p (packs_turn g.packs entry_merged (λ q. omega arith) entry_runs r a);
           merges = subst (Merges c b) p entry_runs.merges;
@@ -166,7 +166,7 @@ module _ {c b : List ℕ} {k bound addition : ℕ} {d : Cursor} {o : OldCursor} 
 
     pub sweeps_less : length (left c b whole.rank) < length (left c b last)
     sweeps_less =
-        subst (λ (m : Merge). length (left c b m.rank) < length (left c b last)) (place-whole first.count refl)
+        subst (λ (m : Merge). length (left c b m.rank) < length (left c b last)) (place_whole first.count refl)
         (packs_less g.packs entry_merged (λ q. omega arith) entry_runs)
 
 -- what is left above a later pair is no more

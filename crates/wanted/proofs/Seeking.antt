@@ -69,18 +69,18 @@ take_part [] (suc s) k (suc n) h = refl
 take_part (x ∷ l) (suc s) k (suc n) h = take_part l s k n (omega arith)
 
 module _ (ws : List ℕ) (i u : ℕ) (o : reads_on (drop i ws) ≡ true) where
-  pairs-at :
+  pairs_at :
       get_or ws (i + 1) 0 ≤ length ws - (i + 2) →
       pairs_from (drop i ws) u 0 ≡ map (rank (get_or ws i 0)) (positions_at ws i) ++ pairs_from (drop (i + 2 + get_or ws (i + 1) 0) ws) (get_or ws i 0) 0
-  pairs-at h =
+  pairs_at h =
       let n : i + 2 + get_or ws (i + 1) 0 - (i + 2) ≡ get_or ws (i + 1) 0 = omega arith in
       let fit : get_or ws (i + 1) 0 ≤ length (drop (i + 2) ws) = rw length-drop h in
       pairs_entry (drop i ws) u o
       ∙ simp (get_or-drop, drop-drop, add-zero)
       (pairs_run (drop (i + 2) ws) (get_or ws (i + 1) 0) (get_or ws i 0) fit ∙ simp (n, drop-drop))
 
-  words-at : (f : ℕ → Bool) → words_before f (drop i ws) u 0 ≡ 2 + words_before f (drop (i + 2) ws) (get_or ws i 0) (get_or ws (i + 1) 0)
-  words-at f =
+  words_at : (f : ℕ → Bool) → words_before f (drop i ws) u 0 ≡ 2 + words_before f (drop (i + 2) ws) (get_or ws i 0) (get_or ws (i + 1) 0)
+  words_at f =
       words_entry f (drop i ws) u o
       ∙ simp (get_or-drop, drop-drop, add-zero)
       (let e : suc (suc (words_before f (drop (i + 2) ws) (get_or ws i 0) (get_or ws (i + 1) 0))) ≡ 2 + words_before f (drop (i + 2) ws) (get_or ws i 0) (get_or ws (i + 1) 0) = omega arith in e)
@@ -149,7 +149,7 @@ module _ {ws : List ℕ} {t a z i : ℕ} (w : Words ws) (s : Seek ws t a z i) (o
       none f =
           let e = entry_at ws i s.last o (s.sound f) in
           s.same f
-          ∙ rw (pairs-at ws i s.last o h)
+          ∙ rw (pairs_at ws i s.last o h)
           (keep_append (is_wanted t a z) (map (rank b) (positions_at ws i)) (pairs_from (drop (i + 2 + get_or ws (i + 1) 0) ws) b 0)
           ∙ rw (
             keep_skip (is_wanted t a z) b (λ p g. wanted_higher t a z (rank b p) (omega arith)) (positions_at ws i) (words_positions ws i w),
@@ -165,13 +165,13 @@ module _ {ws : List ℕ} {t a z i : ℕ} (w : Words ws) (s : Seek ws t a z i) (o
         sound = λ f. (entry_at ws i s.last o (s.sound f)).rest;
         same = λ f.
             s.same f
-            ∙ rw (pairs-at ws i s.last o h)
+            ∙ rw (pairs_at ws i s.last o h)
             (keep_append (is_wanted t a z) (map (rank (get_or ws i 0)) (positions_at ws i)) (pairs_from (drop (i + 2 + get_or ws (i + 1) 0) ws) (get_or ws i 0) 0)
             ∙ rw (keep_skip (is_wanted t a z) (get_or ws i 0) (λ p g. wanted_lower t a z (get_or ws i 0) p l g) (positions_at ws i) (words_positions ws i w)));
         before = λ f.
             s.before f
             ∙ rw (
-              words-at ws i s.last o (is_wanted t a z),
+              words_at ws i s.last o (is_wanted t a z),
               words_skip (is_wanted t a z) (get_or ws i 0) (λ p g. wanted_lower t a z (get_or ws i 0) p l g) (drop (i + 2) ws) (get_or ws (i + 1) 0) (words_drop (i + 2) ws w) (rw length-drop h),
               drop-drop,
             )
@@ -224,7 +224,7 @@ module _ {ws : List ℕ} {t a z i : ℕ} (w : Words ws) (s : Seek ws t a z i) (o
           let e = entry_at ws i s.last o (s.sound f) in
           let g : formed_from (drop (i + 2 + n) ws) t 0 0 ≡ true = rw l at e.rest in
           s.same f
-          ∙ rw (pairs-at ws i s.last o h, l)
+          ∙ rw (pairs_at ws i s.last o h, l)
           (keep_append (is_wanted t a z) (map (rank t) P) rest
           ∙ rw (none_behind t a z t (drop (i + 2 + n) ws) (words_drop (i + 2 + n) ws w) q (omega arith) g, append-nil)
           (keep_wanted t a z P))
@@ -242,4 +242,4 @@ module _ {ws : List ℕ} {t a z i : ℕ} (w : Words ws) (s : Seek ws t a z i) (o
           = rw (← p.positions e.rising, length-take, length-drop) (omega (arith, p.inside)) in
           let first : words_before (is_wanted t a z) (drop (i + 2) ws) t n ≡ length (at_most a P)
           = ap (λ k. words_before (is_wanted t a z) (drop (i + 2) ws) t k) (sym m) ∙ words_first t a z 0 (drop (i + 2) ws) (i + 2 + n - (i + 2)) (rw (length-drop, m) h) e.rising some in
-          omega (arith, s.before f, rw l at (words-at ws i s.last o (is_wanted t a z)), first, p.before e.rising)
+          omega (arith, s.before f, rw l at (words_at ws i s.last o (is_wanted t a z)), first, p.before e.rising)
