@@ -4,6 +4,7 @@
 
 ghost use Rattle.std.specs.Prelude.{◌≡◌, ◌/◌, ◌≤◌, ◌<◌, eqb, length, take};
 ghost use Rattle.std.proofs.lemmas.List.Edits.{sets};
+ghost use Rattle.refusal.specs.Refusal.{number_of};
 ghost use Rattle.pair.specs.Rank.{rank};
 ghost use Rattle.pair.specs.Rising.{any};
 ghost use Rattle.batch.specs.Batch.{updates, ill_formed, arrivals, ill_numbered, batch_number};
@@ -11,6 +12,7 @@ ghost use Rattle.batch.specs.code.Search.{record_at, update_of, next_addition, r
 ghost use Rattle.batch.specs.code.Untouched.{before_record, untouched, quiet_before};
 
 use pair::Pair;
+use refusal::Refusal;
 use rounds::lesser;
 
 pub mod rounds;
@@ -32,13 +34,6 @@ const ADDS: u32 = 1;
 const REMOVES: u32 = 2;
 
 pub(crate) const ANNULS: u32 = 3;
-
-// The numbers of a batch that is not in order.
-const ILL_FORMED: u32 = 6;
-
-const ILL_NUMBERED: u32 = 14;
-
-const ORDER_FALLS: u32 = 7;
 
 // A record of a batch.
 #[derive(Clone, Copy)]
@@ -120,15 +115,15 @@ fn ill_numbered(batch: &[u32]) -> bool
     repeat::repeats(&numbers, batch.len() / RECORD_WORDS)
 }
 
-// The batch's number, 0 where it is in order.
-pub fn batch_number(batch: &[u32]) -> u32
-    ensures { result ≡ batch_number batch.now }
+// Checks that a batch is in order.
+pub fn check(batch: &[u32]) -> Result<(), Refusal>
+    ensures { number_of result ≡ batch_number batch.now }
 {
     if batch.len() % RECORD_WORDS != 0 {
-        return ILL_FORMED;
+        return Err(Refusal::IllFormed);
     }
     if MOST_WORDS < batch.len() {
-        return ILL_FORMED;
+        return Err(Refusal::IllFormed);
     }
     let mut bad = false;
     let mut fallen = false;
@@ -143,15 +138,15 @@ pub fn batch_number(batch: &[u32]) -> u32
         n += 1;
     }
     if bad {
-        return ILL_FORMED;
+        return Err(Refusal::IllFormed);
     }
     if ill_numbered(batch) {
-        return ILL_NUMBERED;
+        return Err(Refusal::IllNumbered);
     }
     if fallen {
-        return ORDER_FALLS;
+        return Err(Refusal::OrderFalls);
     }
-    0
+    Ok(())
 }
 
 // An addition of the batch: the number of its record, and its pair's rank; the rank is 0 where there is none.

@@ -1,10 +1,10 @@
--- `batch::batch_number` meets its contract. The invariant of its loop, Reads: what the two flags say of the records read, with what is so
+-- `batch::check` meets its contract. The invariant of its loop, Reads: what the two flags say of the records read, with what is so
 -- of the rest, is so of the whole batch.
 use mathlib.Core.Path.{◌≡◌, sym, ◌∙◌}
 use mathlib.Core.Bool.{cond}
 use Rattle.batch.specs.Batch.{updates, ill_numbered, batch_number}
 use Rattle.batch.proofs.Records.{reads_turn, number_ragged, number_long, number_read}
-use Rattle.batch.proofs.batch_number.Goals as goal
+use Rattle.batch.proofs.check.Goals as goal
 
 pub returns-then-batch-ne0 : goal.returns-then-batch-ne0
 returns-then-batch-ne0 c = number_ragged _ c.if-batch-ne0.true
