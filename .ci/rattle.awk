@@ -2,7 +2,8 @@
 # whitespace folded:
 #   contracts  of each public function its path, then its signature and each clause
 #   texts      FILE, NAME, TEXT between tabs: structs, enums, public constants and those that a
-#              text here names, use lines
+#              text here names, use lines, and whole each impl of one of the library's traits that
+#              states its contract in a ghost member
 #   faults     public functions with a requires or without an ensures, and what it cannot read
 # A function is public if it is `pub` or callable from C. Prints the files that have one.
 #
@@ -19,6 +20,7 @@ BEGIN {
     odd = "[\"'`\\\\]"
     tactic = "#!?\\[tactic\\(([A-Za-z0-9_:, -]|\\(|\\))*\\)\\]"
     derives = "(Clone|Copy|Drop|Debug|Default|PartialEq|Eq|PartialOrd|Ord|Hash)"
+    stated_trait = "(From|TryFrom|Iterator)"
     known_attribute = "^#\\[(unsafe\\(no_mangle\\)|repr\\(C\\)|derive\\(" derives "(, " derives ")*\\))\\]"
 }
 FNR == 1 { if (file != "") read_file(); file = FILENAME; rest = "" }
@@ -109,6 +111,15 @@ function name_of(text,    name) {
     name = substr(text, RSTART, RLENGTH)
     sub(/ /, " " inside[depth_of], name)
     return name
+}
+
+# An impl of a trait, whole: its ghost members are the contracts of its functions.
+function read_implementation(text,    head) {
+    head = substr(text, 1, index(text, "{") - 1)
+    gsub(/[ \001]+$/, "", head)
+    if (text ~ /#|--|\{-/) fault(file ": an attribute or a comment inside: " head)
+    keep(head, text)
+    functions++
 }
 
 function read_item(text) { keep(name_of(text), attributes text) }
@@ -204,6 +215,7 @@ function read_file(    uses, ghost_uses, pub) {
         else if (rest ~ pub "(const|static|type) ") read_private(statement(0))
         else if (rest ~ /^ghost use /) ghost_uses = ghost_uses inside[depth_of] statement(0)
         else if (rest ~ pub "(use [^;]*|mod [a-z0-9_]+);") uses = uses inside[depth_of] statement(0)
+        else if (rest ~ "^impl(<[^<>]*>)? " stated_trait "[< ][^{};]* for ") read_implementation(statement(1))
         else if (match(rest, pub "(mod|impl)[ <][^{};]*\\{")) open_block(take(RLENGTH))
         else if (depth_of && rest ~ /^\}/) { take(1); depth_of-- }
         else { fault(file ": cannot read: " substr(rest, 1, 80)); return }

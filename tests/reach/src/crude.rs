@@ -53,8 +53,7 @@ pub fn missed(file: &str, body: &str, resolved: &BTreeSet<String>) -> Vec<String
             continue;
         };
         let name = renamed.get(name).unwrap_or(name);
-        let known = resolved.contains(name) || name == "len";
-        if !known && !WORDS_BEFORE_BRACKETS.contains(&name.as_str()) {
+        if !resolved.contains(name) && !WORDS_BEFORE_BRACKETS.contains(&name.as_str()) {
             missed.push(name.clone());
         }
     }

@@ -131,8 +131,7 @@ impl Parser<'_> {
             } else if self.take(".")? {
                 self.field_or_method()?;
             } else if self.take("?")? {
-                // It calls what turns one error into another.
-                self.mention(line, Mention::Refused("an operator ?"));
+                self.mention(line, Mention::Question);
             } else {
                 return Ok(());
             }

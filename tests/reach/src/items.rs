@@ -5,6 +5,8 @@ use crate::lex::{self, Token};
 use crate::parse::{Outcome, Parser};
 use crate::tree::{Constant, Declared, Function, Import, Item, Mention, Path};
 
+const DERIVES: [&str; 6] = ["Drop", "Debug", "PartialEq", "Eq", "PartialOrd", "Ord"];
+
 // The items of a file.
 pub fn parse(file: &str, text: &str) -> Outcome<Vec<Item>> {
     let mut parser = Parser::new(file, text)?;
@@ -94,20 +96,25 @@ impl Parser<'_> {
         self.pass(lex::pass_tactic)
     }
 
-    // What is derived, behind `derive`: that a value may be copied, or let go. Other derives would
-    // make methods.
+    // What is derived, behind `derive`: that a value may be let go, copied, compared or printed.
+    // Other derives would make methods that a lookup might call.
     fn derived(&mut self) -> Outcome<()> {
         self.expect("(")?;
-        if !self.take_word("Drop")? {
-            if !self.take_word("Clone")? {
-                return self.unknown("a derive that is known");
+        self.list(")", |parser| {
+            if parser.take_word("Clone")? {
+                parser.expect(",")?;
+                return match parser.take_word("Copy")? {
+                    true => Ok(()),
+                    false => parser.unknown("a derive that is known"),
+                };
             }
-            self.expect(",")?;
-            if !self.take_word("Copy")? {
-                return self.unknown("a derive that is known");
+            for name in DERIVES {
+                if parser.take_word(name)? {
+                    return Ok(());
+                }
             }
-        }
-        self.expect(")")
+            parser.unknown("a derive that is known")
+        })
     }
 
     fn visibility(&mut self) -> Outcome<()> {
@@ -177,13 +184,22 @@ impl Parser<'_> {
 
     fn implementation(&mut self, line: usize) -> Outcome<Item> {
         let parameters = self.parameters()?;
-        let target = self.path(true)?;
+        let mut target = self.path(true)?;
+        let is_conversion = target.single() == Some("From") && self.take_word("for")?;
+        if is_conversion {
+            self.mentioned();
+            target = self.path(true)?;
+        }
         if !self.mentioned().is_empty() {
             return self.unknown("a type without type arguments before this");
         }
         self.expect("{")?;
         let mut items = Vec::new();
         while !self.take("}")? {
+            if is_conversion && self.at_word("ghost") {
+                self.pass(lex::pass_line)?;
+                continue;
+            }
             self.attributes()?;
             self.visibility()?;
             items.push(self.function_or_constant()?);
@@ -193,6 +209,7 @@ impl Parser<'_> {
             parameters,
             line,
             items,
+            is_conversion,
         })
     }
 

@@ -3,11 +3,34 @@
 use std::collections::{BTreeMap, BTreeSet};
 
 use crate::names::Space;
-use crate::program::{Definition, Home, Program};
-use crate::tree::{Mention, Mentions, Path};
+use crate::program::{Definition, Home, Placed, Program};
+use crate::tree::{Function, Mention, Mentions, Path};
 
-// Methods of built-in types that make no array.
-const BUILT_IN_METHODS: [&str; 1] = ["len"];
+// Methods of built-in types and of the library's that make no array.
+const BUILT_IN_METHODS: [&str; 22] = [
+    "all",
+    "any",
+    "copied",
+    "copy_from_slice",
+    "enumerate",
+    "first",
+    "fold",
+    "is_empty",
+    "is_err",
+    "is_none",
+    "is_ok",
+    "is_some",
+    "iter",
+    "last",
+    "len",
+    "map",
+    "max",
+    "min",
+    "partition_point",
+    "saturating_sub",
+    "sum",
+    "zip",
+];
 
 // What one item refers to and what was found in it.
 #[derive(Default)]
@@ -42,6 +65,7 @@ pub fn look_at(program: &Program, definition: Definition) -> Look {
                 all.extend(part.iter().cloned());
             }
             look.mentions(program, &home, &all);
+            look.questions(program, &home, placed);
         }
         Definition::Type(id) => {
             let placed = &program.types[id];
@@ -118,6 +142,9 @@ impl Look {
                     let words = format!("{} is called, a constant", path.text());
                     self.faults.push((line, words));
                 }
+                if matches!(meant, Ok(Definition::Conversion)) {
+                    self.conversions(program, home, line);
+                }
                 self.value(line, path.last(), meant);
             }
             Mention::Value(path) => {
@@ -132,7 +159,11 @@ impl Look {
                 let meant = program.resolve(home, path, Space::Types);
                 self.type_(line, path, meant, false);
             }
-            Mention::Text | Mention::Binding(_) | Mention::Enter | Mention::Leave => {}
+            Mention::Text
+            | Mention::Binding(_)
+            | Mention::Enter
+            | Mention::Leave
+            | Mention::Question => {}
         }
     }
 
@@ -149,8 +180,36 @@ impl Look {
                 | Definition::Constant(_)
                 | Definition::Type(_)),
             ) => self.refer(line, name, definition),
+            Ok(Definition::Library(_) | Definition::Conversion) => {
+                self.names.insert(name.to_string());
+            }
             Ok(_) => self.faults.push((line, format!("{name} is no value"))),
             Err(words) => self.faults.push((line, words)),
+        }
+    }
+
+    // An operator `?` and a conversion may call any of the conversions that the crate can see.
+    fn conversions(&mut self, program: &Program, home: &Home, line: usize) {
+        let crates = program.crates_of(&program.modules[home.module].of_crate);
+        for id in &program.conversions {
+            let placed = &program.functions[*id];
+            if crates.contains(&program.modules[placed.home.module].of_crate) {
+                self.refer(line, &placed.item.name, Definition::Function(*id));
+            }
+        }
+    }
+
+    // The operators `?` of a function, whose result must be the library's.
+    fn questions(&mut self, program: &Program, home: &Home, placed: &Placed<Function>) {
+        let result = placed.item.output.last();
+        let is_library = matches!(result, Some((_, Mention::Type(path)))
+            if matches!(program.resolve(home, path, Space::Types), Ok(Definition::Library(_))));
+        for (line, mention) in &placed.item.body {
+            match mention {
+                Mention::Question if is_library => self.conversions(program, home, *line),
+                Mention::Question => self.faults.push((*line, "an operator ?".to_string())),
+                _ => {}
+            }
         }
     }
 
@@ -160,7 +219,8 @@ impl Look {
             Ok(Definition::Variant(id)) if braced => {
                 self.refer(line, path.last(), Definition::Type(id));
             }
-            Ok(Definition::Primitive(_) | Definition::Parameter) if !braced => {}
+            Ok(Definition::Primitive(_) | Definition::Parameter | Definition::Library(_))
+                if !braced => {}
             Ok(_) => self
                 .faults
                 .push((line, format!("{} is no type", path.text()))),
@@ -172,6 +232,14 @@ impl Look {
     fn method(&mut self, program: &Program, home: &Home, line: usize, name: &str) {
         let crates = program.crates_of(&program.modules[home.module].of_crate);
         let mut known = BUILT_IN_METHODS.contains(&name);
+        if known {
+            self.names.insert(name.to_string());
+        }
+        if name == "into" {
+            self.names.insert(name.to_string());
+            self.conversions(program, home, line);
+            known = true;
+        }
         for ((owner, member), definition) in &program.members {
             let Definition::Function(id) = definition else {
                 continue;

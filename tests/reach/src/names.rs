@@ -15,6 +15,14 @@ const PRIMITIVES: [&str; 17] = [
     "f64", "bool", "char", "str",
 ];
 
+// Types of the library, and their variants, which need no `use`.
+const LIBRARY_TYPES: [&str; 2] = ["Option", "Result"];
+const LIBRARY_VARIANTS: [&str; 4] = ["Some", "None", "Ok", "Err"];
+
+fn known(names: &[&'static str], name: &str) -> Option<&'static str> {
+    names.iter().copied().find(|known| *known == name)
+}
+
 impl Program {
     // What a path means. The error says why it means nothing.
     pub fn resolve(&self, home: &Home, path: &Path, space: Space) -> Result<Definition, String> {
@@ -88,12 +96,13 @@ impl Program {
         }
         match (self.only(found, name)?, space) {
             (Some(definition), _) => Ok(definition),
-            (None, Space::Types) => PRIMITIVES
-                .iter()
-                .find(|primitive| **primitive == name)
-                .map(|primitive| Definition::Primitive(primitive))
+            (None, Space::Types) => known(&PRIMITIVES, name)
+                .map(Definition::Primitive)
+                .or(known(&LIBRARY_TYPES, name).map(Definition::Library))
                 .ok_or(format!("{name} is not known")),
-            (None, Space::Values) => Err(format!("{name} is not known")),
+            (None, Space::Values) => known(&LIBRARY_VARIANTS, name)
+                .map(Definition::Library)
+                .ok_or(format!("{name} is not known")),
         }
     }
 
@@ -185,6 +194,7 @@ impl Program {
                     _ => Err(format!("{} has no {name}", placed.path)),
                 }
             }
+            Definition::Primitive(_) if name == "from" => Ok(Definition::Conversion),
             Definition::Primitive(primitive) => Err(format!(
                 "{name} of the built-in type {primitive} is not known"
             )),

@@ -18,6 +18,10 @@ pub enum Definition {
     // A variant of an enum.
     Variant(usize),
     Primitive(&'static str),
+    // A type of the library, or a variant of one: `Option` and `Result`.
+    Library(&'static str),
+    // A function `from` of a built-in type: the library's, or any that the crates declare.
+    Conversion,
     // A type parameter.
     Parameter,
 }
@@ -78,6 +82,7 @@ struct Implementation {
     line: usize,
     items: Vec<Item>,
     home: Home,
+    is_conversion: bool,
 }
 
 #[derive(Default)]
@@ -91,6 +96,8 @@ pub struct Program {
     pub dependencies: BTreeMap<String, Vec<String>>,
     // What stands in implementations, by type and name.
     pub members: BTreeMap<(usize, String), Definition>,
+    // The functions of the implementations that make one type of another.
+    pub conversions: Vec<usize>,
     pub faults: Vec<Fault>,
     implementations: Vec<Implementation>,
     // The imports that are being resolved, as types or as values: none stands for itself.
@@ -181,6 +188,7 @@ impl Program {
                     parameters,
                     line,
                     items,
+                    is_conversion,
                 } => {
                     let mut home = home.clone();
                     home.parameters = parameters;
@@ -189,6 +197,7 @@ impl Program {
                         line,
                         items,
                         home,
+                        is_conversion,
                     });
                 }
                 Item::Module { name, line, items } => {
@@ -275,7 +284,11 @@ impl Program {
             line,
             items,
             mut home,
+            is_conversion,
         } = implementation;
+        if is_conversion {
+            return self.convert(&target, items, home);
+        }
         match self.type_of(&home, &target) {
             Ok(owner) => {
                 home.owner = Some(owner);
@@ -284,6 +297,20 @@ impl Program {
                 }
             }
             Err(words) => self.fault(&home.file, line, words),
+        }
+    }
+
+    // Keeps what makes a type of another. It is no name of a module: a call of `from` or `into` and
+    // an operator `?` may mean any of these.
+    fn convert(&mut self, target: &Path, items: Vec<Item>, mut home: Home) {
+        let before = format!("{}::{}", self.modules[home.module].path, target.text());
+        home.owner = self.type_of(&home, target).ok();
+        for item in items {
+            if let Item::Function(item) = item {
+                let (name, line) = (item.name.clone(), item.line);
+                let id = keep(&mut self.functions, item, &before, &name, line, &home);
+                self.conversions.push(id);
+            }
         }
     }
 

@@ -45,6 +45,8 @@ pub enum Mention {
     // A scope of such names begins or ends.
     Enter,
     Leave,
+    // An operator `?`.
+    Question,
     // What cannot be resolved whatever the names mean.
     Refused(&'static str),
 }
@@ -117,5 +119,7 @@ pub enum Item {
         parameters: Vec<String>,
         line: usize,
         items: Vec<Item>,
+        // Whether it says how the type is made of another: `impl From<..> for ..`.
+        is_conversion: bool,
     },
 }
