@@ -8,6 +8,8 @@ use mathlib.Core.List.{List, [], ◌∷◌}
 use lib.ListN.{length, drop}
 use lib.Dec.{ltb, eqb}
 use borrow.Author.Tests.{ltb-true, ltb-false, le-ltb, lt-ltb, eq-eqb}
+use Rattle.std.specs.Prelude.{Some, None}
+use Rattle.std.specs.Option.{unwrap_or}
 use Rattle.pair.specs.Rank.{rank}
 use Rattle.pair.proofs.Tests.{and_left, and_right, or_left, or_right, or_both, and_both, not_holds}
 use Rattle.batch.specs.declared.Cursor.{Cursor}
@@ -26,11 +28,11 @@ seeks_turn b k n h e =
 
 pub seeks_found :
     (b : List ℕ) (k n : ℕ) → n < length b / 5 → adds_above k (update_of (record_at b n)) ≡ true →
-    next_addition b n k ≡ record { at = n; rank = rank (record_at b n).term (record_at b n).from }
+    next_addition b n k ≡ record { at = n; rank = Some (rank (record_at b n).term (record_at b n).from) }
 unfolding next_addition first_added before_added
 seeks_found b k n h e = rw (update_at b n h, e, add-zero)
 
-pub seeks_end : (b : List ℕ) (k n : ℕ) → length b / 5 ≤ n → next_addition b n k ≡ record { at = n; rank = 0 }
+pub seeks_end : (b : List ℕ) (k n : ℕ) → length b / 5 ≤ n → next_addition b n k ≡ record { at = n; rank = None }
 unfolding next_addition first_added before_added
 seeks_end b k n h = rw (update_end b n h, add-zero)
 
@@ -50,13 +52,17 @@ falls_drop (suc n) [] x e = refl
 falls_drop (suc n) (u ∷ us) x e = falls_drop n us (rank u.term u.from) (or_right (ltb (rank u.term u.from) x) (falls (rank u.term u.from) us) e)
 
 -- in a batch in order the first addition above k is the least
-pub first_added_least : (us : List Update) (x k : ℕ) → falls x us ≡ false → first_added k us ≡ least_added k us
+pub first_added_least : (us : List Update) (x k : ℕ) → falls x us ≡ false → unwrap_or (first_added k us) 0 ≡ least_added k us
 unfolding first_added falls adds_above
 first_added_least [] x k e = unfold least_added in refl
 first_added_least (u ∷ us) x k e =
     let here = rank u.term u.from in
     let o : falls here us ≡ false = or_right (ltb here x) (falls here us) e in
-    rw (least_added_first u us k o, first_added_least us here k o)
+    rw (least_added_first u us k o, ← first_added_least us here k o) (go (eqb u.kind 1 && ltb k here))
+  where
+    go : (t : Bool) → unwrap_or (cond t (Some (rank u.term u.from)) (first_added k us)) 0 ≡ cond t (rank u.term u.from) (unwrap_or (first_added k us) 0)
+    go true = refl
+    go false = refl
 
 -- the updates before it add nothing above k, nor above any j from k on
 pub least_added_before : (us : List Update) (k j : ℕ) → k ≤ j → least_added j us ≡ least_added j (drop (before_added k us) us)

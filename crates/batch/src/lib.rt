@@ -8,7 +8,7 @@ ghost use Rattle.refusal.specs.Refusal.{number_of};
 ghost use Rattle.pair.specs.Rank.{rank};
 ghost use Rattle.pair.specs.Rising.{any};
 ghost use Rattle.batch.specs.Batch.{updates, ill_formed, arrivals, ill_numbered, batch_number};
-ghost use Rattle.batch.specs.code.Search.{record_at, update_of, next_addition, rounds_with, removals_with, reach_with, added_with, arrived_with, latest_with, latest_of, none, passing, renewed, removal, annulled, decided};
+ghost use Rattle.batch.specs.code.Search.{record_at, update_of, adds_above, next_addition, rounds_with, removals_with, reach_with, added_with, arrived_with, latest_with, latest_of, none, passing, renewed, removal, annulled, decided};
 ghost use Rattle.batch.specs.code.Untouched.{before_record, untouched, quiet_before};
 
 use pair::Pair;
@@ -43,6 +43,16 @@ pub(crate) struct Record {
     pub(crate) from: u32,
     pub(crate) to: u32,
     pub(crate) arrival: u32,
+}
+
+impl Record {
+    // Whether it adds a pair above a rank.
+    #[tactic(auto, unfolding(crate::specs::code::Search::adds_above))]
+    fn adds_above(self, rank: u64) -> bool
+        ensures { result ≡ adds_above rank (update_of self) }
+    {
+        self.kind == ADDS && rank < first_rank(self)
+    }
 }
 
 // The record with a number, from 0.
@@ -149,27 +159,31 @@ pub fn check(batch: &[u32]) -> Result<(), Refusal>
     Ok(())
 }
 
-// An addition of the batch: the number of its record, and its pair's rank; the rank is 0 where there is none.
+// Where a search for an addition ended: the number of its record, and its pair's rank; behind the records where there is none.
 #[derive(Clone, Copy)]
 pub struct Addition {
     pub at: usize,
-    pub rank: u64,
+    pub rank: Option<u64>,
 }
 
 // The first addition above a rank, from a record on.
 pub fn next_addition(batch: &[u32], from: usize, above: u64) -> Addition
     ensures { result ≡ next_addition batch.now from above }
 {
-    let mut n = from;
-    while n < batch.len() / RECORD_WORDS {
+    let count = batch.len() / RECORD_WORDS;
+    for n in from..count {
         let u = record_at(batch, n);
-        let rank = first_rank(u);
-        if (u.kind == ADDS) & (above < rank) {
-            return Addition { at: n, rank };
+        if u.adds_above(above) {
+            return Addition {
+                at: n,
+                rank: Some(first_rank(u)),
+            };
         }
-        n += 1;
     }
-    Addition { at: n, rank: 0 }
+    Addition {
+        at: from.max(count),
+        rank: None,
+    }
 }
 
 // Records passed by questions with rising ranks: the next record, how many there are up to the last removal of a term before it, the greatest

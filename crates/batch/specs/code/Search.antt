@@ -1,5 +1,5 @@
 -- What the code's walks over a batch answer.
-use Rattle.std.specs.Prelude.{ℕ, zero, suc, min, max, ◌+◌, ◌*◌, ◌/◌, ◌≤◌, ◌<◌, ◌≡◌, Bool, true, false, cond, ◌&&◌, ◌||◌, List, [], ◌∷◌, length, take, drop, get_or, ltb, leb, eqb}
+use Rattle.std.specs.Prelude.{ℕ, zero, suc, min, max, ◌+◌, ◌*◌, ◌/◌, ◌≤◌, ◌<◌, ◌≡◌, Bool, true, false, cond, ◌&&◌, ◌||◌, List, [], ◌∷◌, length, take, drop, get_or, ltb, leb, eqb, Option, Some, None}
 use Rattle.pair.specs.Rank.{word_limit, rank, position}
 use Rattle.batch.specs.declared.Addition.{Addition}
 use Rattle.batch.specs.declared.Cursor.{Cursor}
@@ -45,10 +45,10 @@ unfoldable pub least_added : ℕ → List Update → ℕ
 least_added k [] = 0
 least_added k (u ∷ us) = cond (adds_above k u) (lesser (rank u.term u.from) (least_added k us)) (least_added k us)
 
--- the pair of the first update that adds one above k, 0 for none
-unfoldable pub first_added : ℕ → List Update → ℕ
-first_added k [] = 0
-first_added k (u ∷ us) = cond (adds_above k u) (rank u.term u.from) (first_added k us)
+-- the pair of the first update that adds one above k
+unfoldable pub first_added : ℕ → List Update → Option ℕ
+first_added k [] = None
+first_added k (u ∷ us) = cond (adds_above k u) (Some (rank u.term u.from)) (first_added k us)
 
 -- how many updates stand before that one
 unfoldable pub before_added : ℕ → List Update → ℕ
