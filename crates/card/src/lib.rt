@@ -7,24 +7,17 @@ ghost use Rattle.pair.specs.Tests.{first_of};
 ghost use Rattle.block.specs.Block.{block_size_most};
 ghost use Rattle.card.specs.Layout.{place_count_most, width_of, card_length, in_limits, format_number, formatted};
 ghost use Rattle.card.specs.Sound.{configuration_conditions};
+ghost use Rattle.refusal.specs.Refusal.{number_of};
 
 use layout::{
     BOUNDARY_POSITION_AT, BOUNDARY_TERM_AT, CONFIGURATION_WORDS, Configuration, FORMAT_AT,
     NEW_LENGTH_AT, OLD_LENGTH_AT, OLD_START_AT, PLACES_AT, SIZE_AT,
 };
+use refusal::Refusal;
 
 pub mod layout; // where the parts of a card stand
 
 const FORMAT: u32 = 1;
-
-// The numbers of a card that is not sound, and of a formatter's bad sizes.
-const WRONG_LENGTH: u32 = 1;
-
-const UNKNOWN_FORMAT: u32 = 2;
-
-const BAD_CONFIGURATION: u32 = 3;
-
-const OUTSIDE_LIMITS: u32 = 5;
 
 const BLOCK_SIZE_LEAST: u32 = 8;
 
@@ -54,14 +47,15 @@ fn card_length(format: u32, b: u32, n: u32) -> usize
 }
 
 // Writes the configuration of an empty card, and nothing else.
-pub fn format(card: &mut [u32], b: u32, n: u32) -> u32
-    ensures { (result ≡ format_number card.old b n) × (card.new ≡ formatted card.old b n) }
+pub fn format(card: &mut [u32], b: u32, n: u32) -> Result<(), Refusal>
+    ensures number { number_of result ≡ format_number card.old b n }
+    ensures written { card.new ≡ formatted card.old b n }
 {
     if !in_limits(b, n) {
-        return OUTSIDE_LIMITS;
+        return Err(Refusal::OutsideLimits);
     }
     if card.len() != card_length(FORMAT, b, n) {
-        return WRONG_LENGTH;
+        return Err(Refusal::WrongLength);
     }
     let fresh = Configuration {
         format: FORMAT,
@@ -73,7 +67,7 @@ pub fn format(card: &mut [u32], b: u32, n: u32) -> u32
         boundary: 0,
     };
     fresh.put(card);
-    0
+    Ok(())
 }
 
 // Whether the boundary words agree with the length of the new segment: both 0 where it is 0, a pair where it is not.
@@ -86,39 +80,39 @@ fn boundary_agrees(new_length: u32, term: u32, position: u32) -> bool
     pair::is_pair(term, position)
 }
 
-// The judge's number for the length and the configuration words, 0 where they are in order.
-pub fn configuration_number(card: &[u32]) -> u32
-    ensures { result ≡ first_of (configuration_conditions card.now) }
+// Refuses a card whose length or configuration words are not in order.
+pub fn check_configuration(card: &[u32]) -> Result<(), Refusal>
+    ensures { number_of result ≡ first_of (configuration_conditions card.now) }
 {
     if card.len() < CONFIGURATION_WORDS {
-        return WRONG_LENGTH;
+        return Err(Refusal::WrongLength);
     }
     let format = card[FORMAT_AT];
     if format != FORMAT {
-        return UNKNOWN_FORMAT;
+        return Err(Refusal::UnknownFormat);
     }
     let b = card[SIZE_AT];
     let n = card[PLACES_AT];
     if !in_limits(b, n) {
-        return BAD_CONFIGURATION;
+        return Err(Refusal::BadConfiguration);
     }
     if card.len() != card_length(format, b, n) {
-        return WRONG_LENGTH;
+        return Err(Refusal::WrongLength);
     }
     if n <= card[OLD_START_AT] {
-        return BAD_CONFIGURATION;
+        return Err(Refusal::BadConfiguration);
     }
     let live = card[OLD_LENGTH_AT] as u64 + card[NEW_LENGTH_AT] as u64;
     let most = (n - 1) as u64;
     if most < live {
-        return BAD_CONFIGURATION;
+        return Err(Refusal::BadConfiguration);
     }
     if !boundary_agrees(
         card[NEW_LENGTH_AT],
         card[BOUNDARY_TERM_AT],
         card[BOUNDARY_POSITION_AT],
     ) {
-        return BAD_CONFIGURATION;
+        return Err(Refusal::BadConfiguration);
     }
-    0
+    Ok(())
 }

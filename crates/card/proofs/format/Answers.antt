@@ -19,16 +19,16 @@ long c = omega (arith, c.card_length.ensures)
 
 pub returns-then-not-in_limits : goal.returns-then-not-in_limits
 unfolding format_number formatted first_of
-returns-then-not-in_limits c = let e = sym c.in_limits.ensures ∙ c.if-not-in_limits.true in (simp e, simp e)
+returns-then-not-in_limits c = let e = sym c.in_limits.ensures ∙ c.if-not-in_limits.true in record { number = simp e; written = simp e }
 
 pub returns-then-card-card_length : goal.returns-then-card-card_length
 unfolding format_number formatted first_of
 returns-then-card-card_length c = let e = within (goal.at.returns-then-card-card_length c).Else-not-in_limits in
     let f = ne_eqb _ _ (λ g. c.if-card-card_length.true (g ∙ sym c.card_length.ensures)) in
-    (simp (e, f), simp (e, f))
+    record { number = simp (e, f); written = simp (e, f) }
 
 pub returns : goal.returns
 unfolding format_number formatted first_of put
 returns c = let e = within (goal.at.returns c).Else-not-in_limits in
     let f = eq-eqb _ _ (c.if-card-card_length.false ∙ c.card_length.ensures) in
-    (simp (e, f), c.put.ensures ∙ simp (e, f, le-ltb _ _ (long (goal.at.returns c).Else-card-card_length)))
+    record { number = simp (e, f); written = c.put.ensures ∙ simp (e, f, le-ltb _ _ (long (goal.at.returns c).Else-card-card_length)) }

@@ -1,4 +1,4 @@
--- `card::configuration_number` meets its contract: each test answers one condition of the list, in its order.
+-- `card::check_configuration` meets its contract: each test answers one condition of the list, in its order.
 use Prim.Native.Nat.{ℕ, ◌+◌, ◌-◌}
 use mathlib.Core.Path.{◌≡◌, sym, ◌∙◌}
 use mathlib.Core.Bool.{Bool, true, false, cond}
@@ -9,7 +9,7 @@ use lib.ListN.{length}
 use Rattle.pair.specs.Tests.{first_of}
 use Rattle.card.specs.Layout.{word, block_size, place_count, start_of_old, length_of_old, length_of_new, entry_width, card_length, in_limits}
 use Rattle.card.specs.Sound.{boundary_agrees, configuration_conditions}
-use Rattle.card.proofs.configuration_number.Goals as goal
+use Rattle.card.proofs.check_configuration.Goals as goal
 
 six :
     (c : List ℕ) → ltb (length c) 8 ≡ false → eqb (word c 0) 1 ≡ true → in_limits (block_size c) (place_count c) ≡ true →
