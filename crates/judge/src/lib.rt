@@ -6,14 +6,13 @@ ghost use Rattle.std.specs.Prelude.{◌≡◌, ◌&&◌};
 ghost use Rattle.card.specs.Layout.{place_count, old_places, around};
 ghost use Rattle.card.specs.Sound.{first_reaches, judged};
 ghost use Rattle.card.specs.code.Configuration.{Ordered};
+ghost use Rattle.refusal.specs.Refusal.{number_of};
 ghost use Rattle.judge.specs.code.Scan.{block_scanned, segment_sound, segment_scanned};
 
 use block::{BlockScan, UNFORMED};
 use card::layout;
 use card::layout::Configuration;
-
-// The number of a card whose blocks are not sound.
-const BAD_BLOCKS: u32 = 4;
+use refusal::Refusal;
 
 // What the walk over the live blocks of a segment tells: whether they are sound and rise, and the rank of the last pair, 0 where they do not.
 #[derive(Clone, Copy)]
@@ -76,21 +75,18 @@ fn old_is_sound(card: &[u32], k: Configuration) -> bool
     rest.sound
 }
 
-// The number of a card, 0 where it is sound.
-pub fn judge(card: &[u32]) -> u32
-    ensures { result ≡ judged card.now }
+// Refuses a card that is not sound.
+pub fn judge(card: &[u32]) -> Result<(), Refusal>
+    ensures { number_of result ≡ judged card.now }
 {
-    let number = card::configuration_number(card);
-    if number != 0 {
-        return number;
-    }
+    card::check_configuration(card)?;
     let k = Configuration::of(card);
     let new = scan_segment(card, k, k.new_start(), k.new_length, 0);
     if !(new.sound & (new.last == k.boundary)) {
-        return BAD_BLOCKS;
+        return Err(Refusal::BadBlocks);
     }
     if !old_is_sound(card, k) {
-        return BAD_BLOCKS;
+        return Err(Refusal::BadBlocks);
     }
-    0
+    Ok(())
 }

@@ -6,17 +6,21 @@ use Rattle.card.specs.Layout.{start_of_old, length_of_old, length_of_new, new_pl
 use Rattle.card.specs.Sound.{configuration_conditions, judged}
 use Rattle.card.specs.code.Configuration.{Ordered}
 use Rattle.judge.specs.code.Scan.{segment_scanned}
+use Rattle.refusal.proofs.Numbers.{number_positive, number_returned}
+use native.Mathlib.Omega.{arith}
 use Rattle.judge.proofs.Judged.{configured, judged_early, judged_new, judged_old}
 use Rattle.card.proofs.Ordered.{around_on}
 use Rattle.judge.proofs.judge.Goals as goal
 
-pub returns-then-number-ne0 : goal.returns-then-number-ne0
-returns-then-number-ne0 c = judged_early _ _ c.configuration_number-number.ensures c.if-number-ne0.true
+pub returns-in_err-check_configuration : goal.returns-in_err-check_configuration
+returns-in_err-check_configuration c =
+    number_returned c.from_residual.result c.in_err-check_configuration.field-0.0 c.from_residual.ensures.1
+    ∙ judged_early _ _ c.in_err-check_configuration.ensures (omega (arith, number_positive))
 
 pub scan_segment-new-requires : goal.scan_segment-new-requires
 scan_segment-new-requires c =
     let in_order : first_of (configuration_conditions c.args.card.now) ≡ 0 =
-    sym c.configuration_number-number.ensures ∙ c.if-number-ne0.false in
+    sym c.in_ok-check_configuration.ensures in
     let shape : Ordered c.args.card.now c.of-k.result =
     configured in_order c.of-k.ensures in
     shape
@@ -24,7 +28,7 @@ scan_segment-new-requires c =
 pub returns-then-not-new-k : goal.returns-then-not-new-k
 returns-then-not-new-k c =
     let in_order : first_of (configuration_conditions c.args.card.now) ≡ 0 =
-    sym c.configuration_number-number.ensures ∙ c.if-number-ne0.false in
+    sym c.in_ok-check_configuration.ensures in
     let shape : Ordered c.args.card.now c.of-k.result =
     configured in_order c.of-k.ensures in
     let scanned : let w = c.args.card.now in c.scan_segment-new.result ≡ segment_scanned w 0 (new_places w) =
@@ -36,7 +40,7 @@ returns-then-not-new-k c =
 pub old_is_sound-requires : goal.old_is_sound-requires
 old_is_sound-requires c =
     let in_order : first_of (configuration_conditions c.args.card.now) ≡ 0 =
-    sym c.configuration_number-number.ensures ∙ c.if-number-ne0.false in
+    sym c.in_ok-check_configuration.ensures in
     let shape : Ordered c.args.card.now c.of-k.result =
     configured in_order c.of-k.ensures in
     shape
@@ -44,7 +48,7 @@ old_is_sound-requires c =
 pub returns-then-not-old_is_sound : goal.returns-then-not-old_is_sound
 returns-then-not-old_is_sound c =
     let in_order : first_of (configuration_conditions c.args.card.now) ≡ 0 =
-    sym c.configuration_number-number.ensures ∙ c.if-number-ne0.false in
+    sym c.in_ok-check_configuration.ensures in
     let shape : Ordered c.args.card.now c.of-k.result =
     configured in_order c.of-k.ensures in
     let scanned : let w = c.args.card.now in c.scan_segment-new.result ≡ segment_scanned w 0 (new_places w) =
@@ -58,7 +62,7 @@ returns-then-not-old_is_sound c =
 pub returns : goal.returns
 returns c =
     let in_order : first_of (configuration_conditions c.args.card.now) ≡ 0 =
-    sym c.configuration_number-number.ensures ∙ c.if-number-ne0.false in
+    sym c.in_ok-check_configuration.ensures in
     let shape : Ordered c.args.card.now c.of-k.result =
     configured in_order c.of-k.ensures in
     let scanned : let w = c.args.card.now in c.scan_segment-new.result ≡ segment_scanned w 0 (new_places w) =

@@ -1,7 +1,7 @@
 -- What the judge's walk over live blocks tells.
 use Rattle.std.specs.Prelude.{ℕ, Bool, cond, ◌&&◌, List, get_or}
 use Rattle.pair.specs.Rising.{rising_from, last}
-use Rattle.block.specs.Block.{pairs, formed}
+use Rattle.block.specs.Block.{pairs}
 use Rattle.block.specs.declared.BlockScan.{BlockScan}
 use Rattle.judge.specs.declared.SegmentScan.{SegmentScan}
 use Rattle.card.specs.Layout.{place, pairs_at}
