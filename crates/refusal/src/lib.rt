@@ -3,7 +3,7 @@
 #![tactic(auto)]
 
 ghost use Rattle.std.specs.Prelude.{◌≡◌};
-ghost use Rattle.refusal.specs.Refusal.{number};
+ghost use Rattle.refusal.specs.Refusal.{number, number_of};
 
 // The refusals in the order of their numbers.
 #[derive(Clone, Copy, Debug, PartialEq, Eq)]
@@ -44,5 +44,15 @@ impl From<Refusal> for u32 {
             Refusal::TooManyLines => 13,
             Refusal::IllNumbered => 14,
         }
+    }
+}
+
+// The number of an answer that may be a refusal, 0 where it is none.
+pub fn number_of(answer: Result<(), Refusal>) -> u32
+    ensures { result ≡ number_of answer }
+{
+    match answer {
+        Ok(()) => 0,
+        Err(refusal) => refusal.into(),
     }
 }
