@@ -3,20 +3,21 @@ use Prim.Native.Nat.{ℕ, zero, suc, ◌+◌, ◌-◌, ◌≤◌, ◌<◌}
 use native.Mathlib.Omega.{arith}
 use native.Mathlib.Nat.{add-zero}
 use mathlib.Core.Path.{◌≡◌, refl, sym, ap, subst, ◌∙◌}
-use mathlib.Core.Bool.{Bool, true, false, cond, ◌&&◌, ◌||◌, and-true, and-false}
+use mathlib.Core.Bool.{Bool, true, false, cond, ◌&&◌, ◌||◌, and-true}
+use Rattle.std.proofs.Common.{Some, None}
 use mathlib.Core.Logic.{◌≢◌, ◌⊎◌, inl, inr}
 use mathlib.Core.List.{List, [], ◌∷◌, ◌++◌, append_assoc, append-nil}
 use lib.ListN.{length, set, replicate, length-append, length-replicate, length-set}
 use lib.Seq.{set_at}
 use lib.Dec.{ltb, leb, eqb}
-use borrow.Author.Tests.{eqb-true, eqb-false, ne_eqb, leb-true, leb-false, le-leb, ltb-true, lt-ltb, lt-leb}
+use borrow.Author.Tests.{eqb-true, eqb-false, ne_eqb, leb-true, le-leb, ltb-true, lt-ltb}
 use Rattle.pair.specs.Rank.{term, position, Proper}
 use Rattle.pair.specs.Rising.{last}
 use Rattle.pair.proofs.Rising.{last_append}
 use Rattle.pair.proofs.Tests.{and_left, and_right}
 use Rattle.block.specs.Block.{packed_after, packed, leading, cost, block_of}
 use Rattle.pack.specs.declared.Packing.{Packing}
-use Rattle.pack.specs.code.Packing.{has_room, put_words, put}
+use Rattle.pack.specs.code.Packing.{Room, has_room, put_words, packing_with, put}
 use Rattle.block.proofs.Size.{size, size_packed}
 use Rattle.block.proofs.Filling.{Opened, opened_first, opened_same, opened_other, size_snoc}
 
@@ -140,20 +141,7 @@ last_snoc ks x = last_append ks (x ∷ []) 0
 opened_next : {ks : List ℕ} {t : ℕ} {pre ps : List ℕ} → Opened ks t pre ps → (x : ℕ) → term x ≡ t → Opened (ks ++ x ∷ []) (term x) pre (ps ++ position x ∷ [])
 opened_next {ks} {t} {pre} {ps} o x h = subst (λ (u : ℕ). Opened (ks ++ x ∷ []) u pre (ps ++ position x ∷ [])) (sym h) (opened_same o x h)
 
--- a pair that does not cost one word costs three
-pub cost_other : (t x : ℕ) → (cost t x ≡ 1 → ⊥) → cost t x ≡ 3
-cost_other t x h = go (eqb (term x) t) refl
-  where
-    go : (s : Bool) → eqb (term x) t ≡ s → cost t x ≡ 3
-    go true e = absurd (h (rw e))
-    go false e = rw e
-
 -- what a pair that has room has
-pub record Room (n : ℕ) (p : Packing) (x : ℕ) : Type 0 where
-  pub few : n ≤ 1024
-  pub room : p.used + cost (term p.last) x ≤ n
-  pub counted : cost (term p.last) x ≢ 3 → p.count < p.used
-
 pub has_room_law : (n : ℕ) (p : Packing) (x : ℕ) → has_room n p x ≡ true → Room n p x
 unfolding has_room
 has_room_law n p x e =
@@ -164,28 +152,6 @@ has_room_law n p x e =
       room = leb-true (p.used + k) n (and_right (leb n 1024) (leb (p.used + k) n) f);
       counted = λ h. ltb-true p.count p.used (rw (ne_eqb k 3 h) at (and_right (leb n 1024 && leb (p.used + k) n) (eqb k 3 || ltb p.count p.used) e));
     }
-
--- the tests of the code, one after the other
-pub room_most : (n : ℕ) (p : Packing) (x : ℕ) → 1024 < n → false ≡ has_room n p x
-unfolding has_room
-room_most n p x h = rw (lt-leb n 1024 h)
-
-pub room_used : (n : ℕ) (p : Packing) (x : ℕ) → n < p.used → false ≡ has_room n p x
-unfolding has_room
-room_used n p x h = rw (lt-leb (p.used + cost (term p.last) x) n (omega arith), and-false (leb n 1024))
-
-pub room_left :
-    (n : ℕ) (p : Packing) (x : ℕ) → n ≤ 1024 → p.used ≤ n →
-    (leb (cost (term p.last) x) (n - p.used) && (eqb (cost (term p.last) x) 3 || ltb p.count p.used)) ≡ has_room n p x
-unfolding has_room
-room_left n p x h l = rw (le-leb n 1024 h) (ap (λ (t : Bool). t && (eqb k 3 || ltb p.count p.used)) (go (leb k (n - p.used)) refl))
-  where
-    k : ℕ
-    k = cost (term p.last) x
-
-    go : (t : Bool) → leb k (n - p.used) ≡ t → t ≡ leb (p.used + k) n
-    go true e = sym (le-leb (p.used + k) n (omega (arith, leb-true k (n - p.used) e)))
-    go false e = sym (lt-leb (p.used + k) n (omega (arith, leb-false k (n - p.used) e)))
 
 -- the entry in hand has the term of a pair that costs one word
 found : {ws : List ℕ} {p : Packing} {ks : List ℕ} → Holds ws p ks → (x : ℕ) → Proper x → term x ≡ term p.last → Entry p ks
@@ -214,15 +180,15 @@ holds_room {ws} {p} {ks} h x r l = rw (le-leb (length ws) 1024 l) (go (eqb (term
 -- a pair put into the words
 pub holds_put :
     {ws : List ℕ} {p : Packing} {ks : List ℕ} → Holds ws p ks → (x : ℕ) → Proper x → has_room (length ws) p x ≡ true →
-    Holds (put_words ws p x) (put (length ws) p x).packing (ks ++ x ∷ [])
-unfolding put_words put
+    Holds (put_words ws p x) (packing_with p x) (ks ++ x ∷ [])
+unfolding put_words packing_with
 holds_put {ws} {p} {ks} h x r l = go (eqb (term x) (term p.last)) refl (has_room_law (length ws) p x l).room sized
   where
     sized : size 0 (ks ++ x ∷ []) ≡ p.used + cost (term p.last) x
     sized = size_snoc 0 ks x ∙ rw (h.sized, h.last_pair)
 
     go : (s : Bool) → eqb (term x) (term p.last) ≡ s → p.used + cond s 1 3 ≤ length ws → size 0 (ks ++ x ∷ []) ≡ p.used + cond s 1 3 →
-        Holds (put_words ws p x) (put (length ws) p x).packing (ks ++ x ∷ [])
+        Holds (put_words ws p x) (packing_with p x) (ks ++ x ∷ [])
     go true e n z =
         let t : term x ≡ term p.last = eqb-true (term x) (term p.last) e in
         let a = found h x r t in
@@ -253,15 +219,26 @@ holds_put {ws} {p} {ks} h x r l = go (eqb (term x) (term p.last)) refl (has_room
           entry = inr a.1;
         }
 
--- it is put exactly where it has room
-pub put_done : (n : ℕ) (p : Packing) (x : ℕ) → (put n p x).done ≡ has_room n p x
+-- nothing is put where it has none
+pub put_refused : (n : ℕ) (p : Packing) (x : ℕ) → None ≡ put n p x → has_room n p x ≡ false
 unfolding put
-put_done n p x = go (has_room n p x) refl (eqb (cost (term p.last) x) 1) refl
+put_refused n p x = go (has_room n p x)
   where
-    go : (s : Bool) → has_room n p x ≡ s → (t : Bool) → eqb (cost (term p.last) x) 1 ≡ t → (put n p x).done ≡ has_room n p x
-    go true e true f = rw (e, f)
-    go true e false f = rw (e, f)
-    go false e t f = rw e
+    go : (s : Bool) → None ≡ cond s (Some (packing_with p x)) None → s ≡ false
+    go true e = cc
+    go false e = refl
+
+pub record Placed (n : ℕ) (p : Packing) (x : ℕ) (q : Packing) : Type 0 where
+  pub room : has_room n p x ≡ true
+  pub with : q ≡ packing_with p x
+
+pub put_placed : (n : ℕ) (p : Packing) (x : ℕ) (q : Packing) → Some q ≡ put n p x → Placed n p x q
+unfolding put
+put_placed n p x q = go (has_room n p x) refl
+  where
+    go : (s : Bool) → has_room n p x ≡ s → Some q ≡ cond s (Some (packing_with p x)) None → Placed n p x q
+    go true h e = record { room = h; with = cc }
+    go false h e = cc
 
 pub put_none : (ws : List ℕ) (p : Packing) (x : ℕ) → has_room (length ws) p x ≡ false → put_words ws p x ≡ ws
 unfolding put_words

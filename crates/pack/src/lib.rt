@@ -2,10 +2,10 @@
 
 #![tactic(auto)]
 
-ghost use Rattle.std.specs.Prelude.{◌≡◌, length};
+ghost use Rattle.std.specs.Prelude.{◌≡◌, ◌⊎◌, true, length};
 ghost use Rattle.pair.specs.Rank.{term};
 ghost use Rattle.block.specs.Block.{cost};
-ghost use Rattle.pack.specs.code.Packing.{has_room, put_words, put};
+ghost use Rattle.pack.specs.code.Packing.{Room, has_room, put_words, put};
 
 use pair::Pair;
 
@@ -31,16 +31,10 @@ pub const EMPTY: Packing = Packing {
     count: 0,
 };
 
-// Whether a pair had room, and the packing with it.
-#[derive(Clone, Copy)]
-pub struct PutAnswer {
-    pub packing: Packing,
-    pub done: bool,
-}
-
 // What a pair costs after another.
 pub fn cost(last: u64, rank: u64) -> usize
-    ensures { result ≡ cost (term last) rank }
+    ensures value { result ≡ cost (term last) rank }
+    ensures either { (result ≡ 1) ⊎ (result ≡ 3) }
 {
     let before = Pair::of_rank(last);
     let pair = Pair::of_rank(rank);
@@ -51,57 +45,45 @@ pub fn cost(last: u64, rank: u64) -> usize
 }
 
 // Whether a pair has room in so many words.
+#[tactic(auto, unfolding(crate::specs::code::Packing::has_room))]
 fn has_room(words: usize, packing: Packing, rank: u64) -> bool
-    ensures { result ≡ has_room words packing rank }
+    ensures value { result ≡ has_room words packing rank }
+    ensures room { result ≡ true → Room words packing rank }
 {
-    let used = packing.used;
-    let count = packing.count;
-    let cost = cost(packing.last, rank);
-    if WORDS_MOST < words {
-        return false;
-    }
-    if words < used {
-        return false;
-    }
-    (cost <= words - used) & ((cost == ENTRY_COST) | (count < used))
+    let Packing { used, last, count } = packing;
+    let cost = cost(last, rank);
+    words <= WORDS_MOST
+        && used <= words
+        && cost <= words - used
+        && (cost == ENTRY_COST || count < used)
 }
 
 // Puts a pair into the words, if it has room.
-pub fn put(words: &mut [u32], packing: Packing, rank: u64) -> PutAnswer
-    ensures { (words.new ≡ put_words words.old packing rank) × (result ≡ put (length words.old) packing rank) }
+#[tactic(auto, unfolding(crate::specs::code::Packing::put_words, crate::specs::code::Packing::put, crate::specs::code::Packing::packing_with))]
+pub fn put(words: &mut [u32], packing: Packing, rank: u64) -> Option<Packing>
+    ensures words { words.new ≡ put_words words.old packing rank }
+    ensures packing { result ≡ put (length words.old) packing rank }
 {
     if !has_room(words.len(), packing, rank) {
-        return PutAnswer {
-            packing,
-            done: false,
-        };
+        return None;
     }
-    let used = packing.used;
-    let count = packing.count;
+    let Packing { used, last, count } = packing;
     let pair = Pair::of_rank(rank);
-    let term = pair.term;
-    let position = pair.position;
-    if cost(packing.last, rank) == POSITION_COST {
-        words[used] = position;
+    if cost(last, rank) == POSITION_COST {
+        words[used] = pair.position;
         words[count] = (used - count) as u32;
-        return PutAnswer {
-            packing: Packing {
-                used: used + POSITION_COST,
-                last: rank,
-                count,
-            },
-            done: true,
-        };
-    }
-    words[used] = term;
-    words[used + 1] = 1;
-    words[used + 2] = position;
-    PutAnswer {
-        packing: Packing {
-            used: used + ENTRY_COST,
+        return Some(Packing {
+            used: used + POSITION_COST,
             last: rank,
-            count: used + 1,
-        },
-        done: true,
+            count,
+        });
     }
+    words[used] = pair.term;
+    words[used + 1] = 1;
+    words[used + 2] = pair.position;
+    Some(Packing {
+        used: used + ENTRY_COST,
+        last: rank,
+        count: used + 1,
+    })
 }

@@ -10,7 +10,7 @@ use borrow.Author.Tests.{eq-eqb, ne_eqb, leb-false}
 use Rattle.pair.specs.Rank.{term, Proper}
 use Rattle.pair.proofs.Each.{each_second}
 use Rattle.block.specs.Block.{cost}
-use Rattle.pack.specs.code.Packing.{has_room, put_words, put}
+use Rattle.pack.specs.code.Packing.{has_room, put_words, packing_with}
 use Rattle.pack.specs.declared.Packing.{Packing}
 use Rattle.block.proofs.Size.{size, length_size}
 use Rattle.block.proofs.Filling.{Filled, filled_end, filled_full}
@@ -87,7 +87,7 @@ module _ {c b ws : List ℕ} {p : Packing} {k : ℕ} {r : Merge} (g : Fills c b 
         (rw (g.holds.sized, g.holds.last_pair, ← g.long) (omega arith))) w)
 
     -- it has room, and is put
-    pub fills_turn : has_room (length ws) p r.rank ≡ true → Fills c b (put_words ws p r.rank) (put (length ws) p r.rank).packing r.rank
+    pub fills_turn : has_room (length ws) p r.rank ≡ true → Fills c b (put_words ws p r.rank) (packing_with p r.rank) r.rank
     fills_turn h =
         record {
           ks = g.ks ++ r.rank ∷ [];

@@ -4,6 +4,7 @@ use mathlib.Core.Path.{◌≡◌, refl, sym, ◌∙◌, ap}
 use mathlib.Core.Bool.{Bool, true, false, cond, not}
 use mathlib.Core.List.{List, [], ◌∷◌}
 use native.Mathlib.Omega.{arith}
+use Rattle.std.proofs.Common.{Fits, w32, get_or}
 use lib.ListN.{length, drop}
 use lib.Dec.{ltb, eqb-suc-zero}
 use Rattle.pair.specs.Rank.{Words, Proper}
@@ -18,6 +19,7 @@ use Rattle.batch.specs.Batch.{Update, updates, applied, batch_number}
 use Rattle.batch.proofs.InOrder.{rising_batch, proper_batch}
 use Rattle.batch.proofs.Local.{above_applied}
 use Rattle.card.specs.Layout.{block_size, boundary, entry, place, live, due_place}
+use Rattle.card.specs.Sound.{judged}
 use Rattle.card.proofs.Facts.{Facts, facts}
 use Rattle.card.proofs.Live.{live_rising, live_proper}
 use Rattle.update.specs.Step.{remains, due_block, due_entry, next_write, crowded}
@@ -35,6 +37,16 @@ remaining c b f wc wb e =
       rising = rising_above (applied (updates b) (live c)) 0 (boundary c) (rising_batch b (live c) e (live_rising c f));
       proper = each_keep Proper (ltb (boundary c)) (applied (updates b) (live c)) (proper_batch b (live c) wb e (live_proper c f wc));
     }
+
+-- the words of a slice are words, and so with a card and a batch in hand
+pub words_read : (ws : List ℕ) → ((i : ℕ) → Fits w32 (get_or ws i 0)) → Words ws
+unfolding Words
+words_read ws h i = omega (arith, h i)
+
+pub remaining_read :
+    (c b : List ℕ) → judged c ≡ 0 → ((i : ℕ) → Fits w32 (get_or c i 0)) → ((i : ℕ) → Fits w32 (get_or b i 0)) → batch_number b ≡ 0 →
+    Remaining c (remains c b)
+remaining_read c b j wc wb e = remaining c b (facts c j) (words_read c wc) (words_read b wb) e
 
 -- With the due block and its map entry in place the third write is next.
 pub next_ready : (c r : List ℕ) → (0 < length r → DueWritten c r) → next_write c r ≡ 3

@@ -7,6 +7,7 @@ ghost use Rattle.batch.specs.code.Rounds.{round_reaches};
 ghost use Rattle.update.specs.code.Due.{DueOf};
 
 use crate::merge;
+use pack::Packing;
 
 // The due block: how many of its words are used, the rank of its last pair, 0 for none, and whether pairs stand beyond it.
 #[derive(Clone, Copy)]
@@ -14,6 +15,19 @@ pub(crate) struct Due {
     pub(crate) used: usize,
     pub(crate) last: u64,
     pub(crate) more: bool,
+}
+
+impl Due {
+    // The due block that is packed so.
+    fn of(packing: Packing, more: bool) -> Due
+        ensures { result ≡ record { used = packing.used; last = packing.last; more = more } }
+    {
+        Due {
+            used: packing.used,
+            last: packing.last,
+            more,
+        }
+    }
 }
 
 // Fills the words, which are 0 at first.
@@ -28,24 +42,12 @@ pub(crate) fn fill(card: &[u32], batch: &[u32], reaches: &[u32], words: &mut [u3
     let mut packing = pack::EMPTY;
     loop {
         place = merge::next(card, batch, reaches, place);
-        let rank = place.rank;
-        let used = packing.used;
-        let last = packing.last;
-        if rank == 0 {
-            return Due {
-                used,
-                last,
-                more: false,
-            };
+        if place.rank == 0 {
+            return Due::of(packing, false);
         }
-        let put = pack::put(words, packing, rank);
-        if !put.done {
-            return Due {
-                used,
-                last,
-                more: true,
-            };
-        }
-        packing = put.packing;
+        let Some(put) = pack::put(words, packing, place.rank) else {
+            return Due::of(packing, true);
+        };
+        packing = put;
     }
 }

@@ -2,49 +2,36 @@
 -- pair in hand. The measure is what is left.
 use native.Mathlib.Omega.{arith}
 use mathlib.Core.Path.{◌≡◌, sym, ap, ◌∙◌}
-use lib.ListN.{length}
-use borrow.Author.Tests.{not-true, not-false}
 use Rattle.pair.specs.Rank.{Words}
-use Rattle.pack.specs.code.Packing.{has_room}
-use Rattle.pack.specs.declared.PutAnswer.{PutAnswer}
-use Rattle.pack.proofs.Holding.{put_done, put_none}
+use Rattle.pack.proofs.Holding.{put_none, put_refused, put_placed}
 use Rattle.card.proofs.Facts.{facts}
 use Rattle.update.specs.Step.{remains}
 use Rattle.update.proofs.Fills.{fills_start, fills_end, fills_full, fills_turn}
 use Rattle.update.proofs.Grown.{Remaining}
 use Rattle.update.proofs.Merging.{merges_begun}
-use Rattle.update.proofs.Next.{remaining}
+use Rattle.update.proofs.Next.{remaining_read}
 use Rattle.update.proofs.due.fill.Goals as goal
 
 pub loop-place-init : goal.loop-place-init
 loop-place-init c =
     (rw c.start-place.ensures.bound (fills_start _ _ _ c.requires.words_value), merges_begun (facts _ c.requires.card_value) c.start-place.ensures)
 
-pub returns-then-rank-eq0 : goal.returns-then-rank-eq0
-returns-then-rank-eq0 c =
-    fills_end c.loop-place.invariant.0 (facts _ c.requires.card_value) c.next-place.ensures c.if-rank-eq0.true
+pub returns-then-place-eq0 : goal.returns-then-place-eq0
+returns-then-place-eq0 c =
+    rw c.of.ensures (fills_end c.loop-place.invariant.0 (facts _ c.requires.card_value) c.next-place.ensures c.if-place-eq0.true)
 
-pub returns-then-not-put : goal.returns-then-not-put
-unfolding Words
-returns-then-not-put c =
-    let rest : Remaining c.args.card.now (remains c.args.card.now c.args.batch.now) =
-    remaining c.args.card.now c.args.batch.now (facts c.args.card.now c.requires.card_value)
-    (λ i. omega (arith, c.type_inv.card i)) (λ i. omega (arith, c.type_inv.batch i)) c.requires.batch_value in
-    let done : c.put-put.result.done ≡ has_room (length c.loop-place.words) c.loop-place.packing c.next-place.result.rank =
-    ap (λ (r : PutAnswer). r.done) c.put-put.ensures.1 ∙ put_done _ _ _ in
-    let h = sym done ∙ not-true _ c.if-not-put.true in
-    rw (c.put-put.ensures.0 ∙ put_none _ _ _ h)
-    (fills_full c.loop-place.invariant.0 (facts _ c.requires.card_value) c.next-place.ensures c.if-rank-eq0.false rest h)
+pub returns-in_default : goal.returns-in_default
+returns-in_default c =
+    let rest = remaining_read _ _ c.requires.card_value c.type_inv.card c.type_inv.batch c.requires.batch_value in
+    let full = put_refused _ _ _ (sym c.in_default.is ∙ c.put.ensures.packing) in
+    rw (c.of-in_default.ensures, c.put.ensures.words, put_none _ _ _ full)
+    (fills_full c.loop-place.invariant.0 (facts _ c.requires.card_value) c.next-place.ensures c.if-place-eq0.false rest full)
 
 pub loop-place-preserved : goal.loop-place-preserved
-unfolding Words
 loop-place-preserved c =
-    let rest : Remaining c.args.card.now (remains c.args.card.now c.args.batch.now) =
-    remaining c.args.card.now c.args.batch.now (facts c.args.card.now c.requires.card_value)
-    (λ i. omega (arith, c.type_inv.card i)) (λ i. omega (arith, c.type_inv.batch i)) c.requires.batch_value in
-    let done : c.put-put.result.done ≡ has_room (length c.loop-place.words) c.loop-place.packing c.next-place.result.rank =
-    ap (λ (r : PutAnswer). r.done) c.put-put.ensures.1 ∙ put_done _ _ _ in (
-      rw (c.put-put.ensures.0, c.put-put.ensures.1)
-          (fills_turn c.loop-place.invariant.0 (facts _ c.requires.card_value) c.next-place.ensures c.if-rank-eq0.false rest (sym done ∙ not-false _ c.if-not-put.false)),
-      c.next-place.ensures.merges c.if-rank-eq0.false,
+    let rest = remaining_read _ _ c.requires.card_value c.type_inv.card c.type_inv.batch c.requires.batch_value in
+    let placed = put_placed _ _ _ _ (sym c.in-Some.is ∙ c.put.ensures.packing) in (
+      rw (c.put.ensures.words, placed.with)
+          (fills_turn c.loop-place.invariant.0 (facts _ c.requires.card_value) c.next-place.ensures c.if-place-eq0.false rest placed.room),
+      c.next-place.ensures.merges c.if-place-eq0.false,
     )
