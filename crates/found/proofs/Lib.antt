@@ -7,6 +7,5 @@ pub mod Mapping
 pub mod Opening
 pub mod Positions
 pub mod Span
-pub mod Starting
 pub mod Unread
 pub mod Walking

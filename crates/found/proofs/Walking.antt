@@ -4,12 +4,13 @@ use native.Mathlib.Nat.{mod-eq_of_lt, mod-lt}
 use native.Mathlib.Omega.{arith}
 use mathlib.Core.Path.{◌≡◌, refl, sym, ap, ◌∙◌}
 use mathlib.Core.Bool.{Bool, true}
-use mathlib.Core.List.{List, [], ◌∷◌, ◌++◌, map, map-append, append_assoc}
+use mathlib.Core.List.{List, [], ◌∷◌, ◌++◌, map, map-append, append_assoc, append-nil}
 use borrow.Author.Tests.{ne_eqb}
 use lib.ListN.{length, take, drop, length-take, length-drop, length-append, length-map}
 use lib.Seq.{drop-drop}
 use Rattle.pair.specs.Rank.{position}
 use Rattle.pair.specs.Rising.{Each, keep}
+use Rattle.pair.proofs.Each.{each_second}
 use Rattle.pair.proofs.Keep.{keep_append}
 use Rattle.block.specs.Block.{pairs, formed}
 use Rattle.wanted.specs.code.Wanted.{is_wanted, BlockPart}
@@ -19,11 +20,12 @@ use Rattle.pair.proofs.Lists.{length_part}
 use Rattle.card.specs.Layout.{block_size, place_count, place_at, place, around, pairs_at}
 use Rattle.card.specs.code.Configuration.{ConfigurationOf, place_on}
 use Rattle.card.specs.declared.layout.Configuration.{Configuration}
-use Rattle.card.proofs.Circle.{around_mod}
+use Rattle.card.proofs.Circle.{around_add, around_mod, around_cons, around_more}
+use Rattle.card.proofs.Live.{pairs_at_append}
 use Rattle.found.specs.declared.walk.Stretch.{Stretch}
 use Rattle.found.specs.declared.walk.Walk.{Walk}
-use Rattle.found.specs.declared.walk.StretchRun.{StretchRun}
-use Rattle.found.specs.code.Walk.{PlacePart, postings, at_first, places_of, ahead_of, first_run, first_start, Ready, Sought, ReadyWalk, Next}
+use Rattle.found.specs.declared.walk.Run.{Run}
+use Rattle.found.specs.code.Walk.{PlacePart, postings, at_first, places_of, ahead_of, ahead, next_run, next_start, Ready, FirstRun, ReadyWalk, NextRun}
 
 -- what a block answers, said of the card: nothing,
 pub place_none : {c : List ℕ} {i t a z : ℕ} {r : Part} → BlockPart (place c i) t a z r → r.len ≡ 0 → PlacePart c i t a z (record { start = 0; len = 0 })
@@ -76,16 +78,11 @@ pub postings_none : (c : List ℕ) (f : ℕ → Bool) → postings c f [] ≡ []
 unfolding postings pairs_at keep
 postings_none c f = refl
 
--- one place of a stretch after another
-places_step : (n p b : ℕ) → 0 < b → p < n → around n p b ≡ p ∷ around n ((p + 1) % n) (b - 1)
-unfolding around
-places_step n p zero h l = absurd (omega arith)
-places_step n p (suc b) h l =
-    let e : suc b - 1 ≡ b = omega arith in
-    rw (mod-eq_of_lt l, e, around_mod n (p + 1) b)
-
-postings_skip : (c : List ℕ) (f : ℕ → Bool) (i : ℕ) (is : List ℕ) → keep f (pairs (place c i)) ≡ [] → postings c f (i ∷ is) ≡ postings c f is
-postings_skip c f i is e = postings_cons c f i is ∙ rw e
+pub postings_append : (c : List ℕ) (f : ℕ → Bool) (is js : List ℕ) → postings c f (is ++ js) ≡ postings c f is ++ postings c f js
+unfolding postings
+postings_append c f is js =
+    ap (λ ps. map position (keep f ps)) (pairs_at_append c is js) ∙ ap (map position) (keep_append f (pairs_at c is) (pairs_at c js))
+    ∙ map-append _ (keep f (pairs_at c is)) (keep f (pairs_at c js))
 
 -- what the first of the places has where some pair passes the test
 module _ {A : Type 0} (c : List ℕ) (f : ℕ → Bool) (has : ℕ → A) where
@@ -117,168 +114,173 @@ module _ {A : Type 0} (c : List ℕ) (f : ℕ → Bool) (has : ℕ → A) where
       both : (kept i ≡ []) × (keep f (pairs_at c is) ≡ [])
       both = append_empty (kept i) (keep f (pairs_at c is)) (unfold pairs_at in (sym (keep_append f (pairs (place c i)) (pairs_at c is)) ∙ e))
 
-  first_some : (is : List ℕ) (a b : A) → 0 < length (postings c f is) → at_first c f has is a ≡ at_first c f has is b
-  first_some [] a b h = absurd (omega (arith, ap length (postings_none c f)))
-  first_some (i ∷ is) a b h = go (first_some is a b) (kept i) refl
-    where
-      go : (0 < length (postings c f is) → at_first c f has is a ≡ at_first c f has is b) → (ks : List ℕ) → kept i ≡ ks → at_first c f has (i ∷ is) a ≡ at_first c f has (i ∷ is) b
-      go ih [] e = first_skip i is a e ∙ ih (rw (postings_skip c f i is e) at h) ∙ sym (first_skip i is b e)
-      go ih (x ∷ xs) e = let l : 0 < length (kept i) = rw e (omega arith) in first_hit i is a l ∙ sym (first_hit i is b l)
+-- The wanted positions of a stretch, block by block: of its first j blocks,
+abbrev pub ahead_to : List ℕ → ℕ → ℕ → Stretch → ℕ → List ℕ
+ahead_to c t z s j = postings c (is_wanted t s.after z) (around (place_count c) s.place j)
 
--- The first block of a stretch is read: what is ahead is its part and what is ahead behind it.
-module _ {c : List ℕ} {t a z p b : ℕ} {x : Part} {k : Configuration} {q : ℕ} (o : ConfigurationOf c k) (h : 0 < b) (y : PlacePart c p t a z x) (e : q ≡ place_on k.places p 1) (r : Ready c (record { place = p; blocks = b; after = a })) where
-  -- the next place is that of the circle
-  on : q ≡ (p + 1) % place_count c
-  unfolding place_on
-  on =
-      let shape = r.shape h in
-      let n : k.places ≡ place_count c = omega (arith, o.of_places, shape.count_high) in
-      e ∙ rw (n, ne_eqb (place_count c) 0 (omega (arith, shape.count_low)))
+-- and of those behind them.
+abbrev pub ahead_from : List ℕ → ℕ → ℕ → Stretch → ℕ → List ℕ
+ahead_from c t z s j = postings c (is_wanted t s.after z) (around (place_count c) (s.place + j) (s.blocks - j))
 
-  step : around (place_count c) p b ≡ p ∷ around (place_count c) q (b - 1)
-  step = places_step (place_count c) p b h (r.within h) ∙ rw on
+pub ahead_none : (c : List ℕ) (t z : ℕ) (s : Stretch) → ahead_to c t z s 0 ≡ []
+ahead_none c t z s = unfold around in postings_none c (is_wanted t s.after z)
 
-  live : Each (λ i. formed (place c i) ≡ true) (p ∷ around (place_count c) q (b - 1))
-  live = rw step at r.live
+pub ahead_split : (c : List ℕ) (t z : ℕ) (s : Stretch) (j : ℕ) → j ≤ s.blocks → ahead_of c t z s ≡ ahead_to c t z s j ++ ahead_from c t z s j
+ahead_split c t z s j h =
+    let e : j + (s.blocks - j) ≡ s.blocks = omega arith in
+    let around_all = rw e at (around_add (place_count c) s.place j (s.blocks - j)) in
+    ap (postings c (is_wanted t s.after z)) around_all
+    ∙ postings_append c (is_wanted t s.after z) (around (place_count c) s.place j) (around (place_count c) (s.place + j) (s.blocks - j))
 
-  pub ready_behind : Ready c (record { place = q; blocks = b - 1; after = a })
-  ready_behind =
-      let shape = r.shape h in
-      record { shape = λ l. shape; within = λ l. rw on (mod-lt (p + 1) (omega (arith, shape.count_low))); live = live.1 }
+pub ahead_most : (c : List ℕ) (t z : ℕ) (s : Stretch) (j : ℕ) → j ≤ s.blocks → length (ahead_to c t z s j) ≤ length (ahead_of c t z s)
+ahead_most c t z s j h =
+    omega (arith, ap length (ahead_split c t z s j h) ∙ length-append (ahead_to c t z s j) (ahead_from c t z s j))
 
-  pub ahead_part :
-      ahead_of c t z (record { place = p; blocks = b; after = a })
-      ≡ take x.len (drop x.start c) ++ ahead_of c t z (record { place = q; blocks = b - 1; after = a })
-  ahead_part = rw step (postings_cons c (is_wanted t a z) p (around (place_count c) q (b - 1)) ∙ rw (y.positions live.0))
+-- The block j of a stretch is read.
+module _ {c : List ℕ} {t z : ℕ} {s : Stretch} {k : Configuration} {j q : ℕ} {x : Part} (o : ConfigurationOf c k) (h : j < s.blocks) (e : q ≡ place_on k.places s.place j) (y : PlacePart c q t s.after z x) where
+  abbrev here : ℕ
+  here = (s.place + j) % place_count c
 
--- the stretch of the b blocks from the place p on
-abbrev pub left : Stretch → ℕ → ℕ → Stretch
-left s p b = record { place = p; blocks = b; after = s.after }
+  abbrev upto : List ℕ
+  upto = around (place_count c) s.place j
 
-pub nothing_left : (c : List ℕ) (t z : ℕ) (s : Stretch) (p b : ℕ) → b ≡ 0 → ahead_of c t z (left s p b) ≡ []
-nothing_left c t z s p b e = rw e (unfold around in postings_none c (is_wanted t s.after z))
+  abbrev behind : List ℕ
+  behind = around (place_count c) (s.place + (j + 1)) (s.blocks - (j + 1))
 
--- the first run of the stretch s is that of the so many blocks from the place on
-pub record Seeking (c : List ℕ) (t z : ℕ) (s : Stretch) (p b : ℕ) : Type 0 where
-  pub most : b ≤ s.blocks
-  pub ready : Ready c s → Ready c (left s p b)
-  pub run : Ready c s → first_run c t z s [] ≡ first_run c t z (left s p b) []
-  pub starts : Ready c s → first_start c t z s 0 ≡ first_start c t z (left s p b) 0
-  pub rest : Ready c s → ahead_of c t z s ≡ ahead_of c t z (left s p b)
+  abbrev part : List ℕ
+  part = take x.len (drop x.start c)
 
-pub seeking_start : (c : List ℕ) (t z : ℕ) (s : Stretch) → Seeking c t z s s.place s.blocks
-seeking_start c t z s =
-    record { most = omega arith; ready = λ r. r; run = λ r. refl; starts = λ r. refl; rest = λ r. refl }
-
--- no block is left
-pub seeking_end :
-    {c : List ℕ} {t z : ℕ} {s : Stretch} {p b : ℕ} → Seeking c t z s p b → b ≡ 0 →
-    Sought c t z s (record { start = 0; len = 0; rest = left s p 0 })
-seeking_end {c} {t} {z} {s} {p} {b} k e =
-    record {
-      inside = zero-le;
-      most = zero-le;
-      fewer = λ l. absurd (let z : ⊥ = omega arith in z);
-      spent = λ l. refl;
-      ready = λ r. rw e at (k.ready r);
-      run = λ r. sym (unfold at_first around in (rw e at (k.run r)));
-      starts = λ r. sym (unfold at_first around in (rw e at (k.starts r)));
-      rest = λ r. rw e at (k.rest r);
-      none = λ r l. k.rest r ∙ nothing_left c t z s p b e;
-    }
-
--- the block at the place is read
-module _ {c : List ℕ} {t z : ℕ} {s : Stretch} {p b : ℕ} {x : Part} {k : Configuration} {q : ℕ} (g : Seeking c t z s p b) (o : ConfigurationOf c k) (h : 0 < b) (y : PlacePart c p t s.after z x) (e : q ≡ place_on k.places p 1) where
   abbrev f : ℕ → Bool
   f = is_wanted t s.after z
 
-  abbrev behind : List ℕ
-  behind = around (place_count c) q (b - 1)
+  -- its place is that of the circle
+  on : Ready c s → (i : ℕ) → place_on k.places s.place i ≡ (s.place + i) % place_count c
+  unfolding place_on
+  on r i =
+      let shape = r.shape (omega arith) in
+      let n : k.places ≡ place_count c = omega (arith, o.of_places, shape.count_high) in
+      rw (n, ne_eqb (place_count c) 0 (omega (arith, shape.count_low)))
 
-  -- it has nothing wanted
-  pub seeking_turn : x.len ≤ 0 → Seeking c t z s q (b - 1)
-  seeking_turn l =
-      record {
-        most = omega (arith, g.most);
-        ready = λ r. ready_behind o h y e (g.ready r);
-        run = λ r. g.run r ∙ rw (step o h y e (g.ready r)) (first_skip c f _ p behind [] (none r));
-        starts = λ r. g.starts r ∙ rw (step o h y e (g.ready r)) (first_skip c f _ p behind 0 (none r));
-        rest = λ r. g.rest r ∙ rw zero_len at (ahead_part o h y e (g.ready r));
-      }
-    where
-      zero_len : x.len ≡ 0
-      zero_len = omega arith
+  split : places_of c s ≡ upto ++ (here ∷ behind)
+  split =
+      let n : j + (s.blocks - j) ≡ s.blocks = omega arith in
+      rw n at (around_add (place_count c) s.place j (s.blocks - j))
+      ∙ ap (λ l. upto ++ l) (around_cons (place_count c) s.place s.blocks j h)
 
-      none : Ready c s → keep f (pairs (place c p)) ≡ []
-      none r = map_nil position (keep f (pairs (place c p))) (sym (rw zero_len at (y.positions (live o h y e (g.ready r)).0)))
+  live : Ready c s → Each (λ i. formed (place c i) ≡ true) (here ∷ behind)
+  live r = each_second _ upto (here ∷ behind) (rw split at r.live)
 
-  -- it has the run
-  pub seeking_hit : 0 < x.len → Sought c t z s (record { start = x.start; len = x.len; rest = left s q (b - 1) })
-  seeking_hit l =
+  has_part : Ready c s → part ≡ map position (keep f (pairs (place c here)))
+  has_part r = rw (e ∙ on r j) at y.positions (live r).0
+
+  -- it adds its part,
+  pub ahead_turn : Ready c s → ahead_to c t z s (j + 1) ≡ ahead_to c t z s j ++ part
+  ahead_turn r =
+      ap (postings c f) (around_more (place_count c) s.place j) ∙ postings_append c f upto (here ∷ [])
+      ∙ ap (λ l. ahead_to c t z s j ++ l) (postings_cons c f here [] ∙ rw (postings_none c f) (append-nil _) ∙ sym (has_part r))
+
+  -- or is the first that has any.
+  pub seek_hit :
+      (Ready c s → ahead_to c t z s j ≡ []) → 0 < x.len → {p : ℕ} → p ≡ place_on k.places s.place (j + 1) →
+      FirstRun c t z s (record { part = x; rest = record { place = p; blocks = s.blocks - j - 1; after = s.after } })
+  seek_hit n l {p} d =
       record {
         inside = y.inside;
-        most = omega (arith, g.most);
-        fewer = λ j. omega (arith, g.most);
-        spent = λ j. absurd (let z : ⊥ = omega arith in z);
-        ready = λ r. ready_behind o h y e (g.ready r);
-        run = λ r. y.positions (formed_first r) ∙ sym (g.run r ∙ rw (step o h y e (g.ready r)) (first_hit c f _ p behind [] (some r)));
-        starts = λ r. y.before (formed_first r) l ∙ sym (g.starts r ∙ rw (step o h y e (g.ready r)) (first_hit c f _ p behind 0 (some r)));
-        rest = λ r. g.rest r ∙ ahead_part o h y e (g.ready r);
-        none = λ r j. absurd (let z : ⊥ = omega arith in z);
+        some = l;
+        fewer = omega arith;
+        ready = λ r. record { shape = λ b. r.shape (omega arith); live = rw (rest_places r) (live r).1 };
+        run = λ r none. has_part r ∙ sym (first r none);
+        starts = λ r none. rw (e ∙ on r j) at (y.before (rw (← e ∙ on r j) (live r).0) l) ∙ sym (first r none);
+        rest = λ r. ahead_split c t z s (j + 1) (omega arith) ∙ rw (ahead_turn r, n r, rest_places r);
       }
     where
-      formed_first : Ready c s → formed (place c p) ≡ true
-      formed_first r = (live o h y e (g.ready r)).0
+      rest_places : Ready c s → around (place_count c) p (s.blocks - j - 1) ≡ behind
+      rest_places r =
+          let b : s.blocks - j - 1 ≡ s.blocks - (j + 1) = omega arith in
+          rw (d ∙ on r (j + 1), b) (around_mod (place_count c) (s.place + (j + 1)) (s.blocks - (j + 1)))
 
-      some : Ready c s → 0 < length (keep f (pairs (place c p)))
+      some : Ready c s → 0 < length (keep f (pairs (place c here)))
       some r =
-          let e : length (take x.len (drop x.start c)) ≡ length (keep f (pairs (place c p)))
-          = ap length (y.positions (formed_first r)) ∙ length-map (keep f (pairs (place c p))) position in
+          let e : length part ≡ length (keep f (pairs (place c here)))
+          = ap length (has_part r) ∙ length-map (keep f (pairs (place c here))) position in
           let m = length_part c x.start x.len y.inside in
           omega arith
 
--- two stretches, one after the other
+      first : {A : Type 0} {has : ℕ → A} → Ready c s → (none : A) → at_first c f has (places_of c s) none ≡ has here
+      first {A} {has} r none =
+          ap (λ is. at_first c f has is none) split ∙ first_append c f has upto (here ∷ behind) none
+          ∙ first_none c f has upto _ (map_nil position _ (unfold postings in n r)) ∙ first_hit c f has here behind none (some r)
+
+-- nothing is wanted so far
+pub seek_turn :
+    {c : List ℕ} {t z : ℕ} {s : Stretch} {k : Configuration} {j q : ℕ} {x : Part} → ConfigurationOf c k → j < s.blocks →
+    q ≡ place_on k.places s.place j → PlacePart c q t s.after z x → (Ready c s → ahead_to c t z s j ≡ []) → x.len ≤ 0 →
+    Ready c s → ahead_to c t z s (j + 1) ≡ []
+seek_turn {c} {x = x} o h e y n l r =
+    let zero_len : x.len ≡ 0 = omega arith in
+    ahead_turn o h e y r ∙ rw (n r, zero_len)
+
+-- of two stretches, the first that has a run
 pub next_new :
-    {c : List ℕ} {w : Walk} {r : StretchRun} → Sought c w.term w.to w.new r → 0 < r.len →
-    Next c w (record { start = r.start; len = r.len; rest = record { term = w.term; to = w.to; new = r.rest; old = w.old } })
-next_new {c} {w} {r} s h =
+    {c : List ℕ} {w : Walk} {r : Run Stretch} → FirstRun c w.term w.to w.new r →
+    NextRun c w (record { part = r.part; rest = record { term = w.term; to = w.to; new = r.rest; old = w.old } })
+next_new {c} {w} {r} s =
     record {
       inside = s.inside;
-      fewer = λ l. omega (arith, s.fewer h);
-      spent = λ e. absurd (let z : ⊥ = omega arith in z);
+      some = s.some;
+      fewer = omega (arith, s.fewer);
       ready = λ g. record { new = s.ready g.new; old = g.old };
-      run = λ g. s.run g.new ∙ first_some c _ _ _ _ _ (some g);
-      starts = λ g. s.starts g.new ∙ first_some c _ _ _ _ _ (some g);
-      rest = λ g. ap (λ l. l ++ ahead_of c w.term w.to w.old) (s.rest g.new) ∙ append_assoc (take r.len (drop r.start c)) (ahead_of c w.term w.to r.rest) (ahead_of c w.term w.to w.old);
-      none = λ g e. absurd (let z : ⊥ = omega arith in z);
+      run = λ g. s.run g.new _;
+      starts = λ g. s.starts g.new _;
+      rest = λ g.
+          ap (λ l. l ++ ahead_of c w.term w.to w.old) (s.rest g.new)
+          ∙ append_assoc (take r.part.len (drop r.part.start c)) (ahead_of c w.term w.to r.rest) (ahead_of c w.term w.to w.old);
     }
-  where
-    some : ReadyWalk c w → 0 < length (ahead_of c w.term w.to w.new)
-    some g = rw (s.rest g.new, length-append, length_part c r.start r.len s.inside) (omega arith)
+
+-- a stretch without blocks
+abbrev pub no_blocks : Stretch
+no_blocks = record { place = 0; blocks = 0; after = 0 }
+
+pub no_blocks_ready : (c : List ℕ) → Ready c no_blocks
+unfolding around
+no_blocks_ready c = record { shape = λ l. absurd (let z : ⊥ = omega arith in z); live = tt }
+
+pub no_blocks_ahead : (c : List ℕ) (t z : ℕ) → ahead_of c t z no_blocks ≡ []
+no_blocks_ahead c t z = ahead_none c t z no_blocks
+
+-- where nothing is ahead of a stretch, its first run is whatever stands for none
+pub stretch_none : {A : Type 0} (c : List ℕ) (t z : ℕ) (s : Stretch) (has : ℕ → A) (none : A) → ahead_of c t z s ≡ [] → at_first c (is_wanted t s.after z) has (places_of c s) none ≡ none
+stretch_none c t z s has none e = first_none c (is_wanted t s.after z) has (places_of c s) none (map_nil position _ (unfold postings in e))
 
 pub next_old :
-    {c : List ℕ} {w : Walk} {r q : StretchRun} → Sought c w.term w.to w.new r → r.len ≤ 0 → Sought c w.term w.to w.old q →
-    Next c w (record { start = q.start; len = q.len; rest = record { term = w.term; to = w.to; new = r.rest; old = q.rest } })
-next_old {c} {w} {r} {q} s h u =
+    {c : List ℕ} {w : Walk} {r : Run Stretch} → (Ready c w.new → ahead_of c w.term w.to w.new ≡ []) → FirstRun c w.term w.to w.old r →
+    NextRun c w (record { part = r.part; rest = record { term = w.term; to = w.to; new = no_blocks; old = r.rest } })
+next_old {c} {w} {r} n s =
     record {
-      inside = u.inside;
-      fewer = λ l. omega (arith, s.most, u.fewer l);
-      spent = λ e. omega (arith, s.spent empty, u.spent e);
-      ready = λ g. record { new = s.ready g.new; old = u.ready g.old };
-      run = λ g. u.run g.old ∙ sym (first_none c _ _ _ _ (kept g));
-      starts = λ g. u.starts g.old ∙ sym (first_none c _ _ _ _ (kept g));
-      rest = λ g. rw (none g, behind g) (u.rest g.old);
-      none = λ g e. rw (none g) (u.none g.old e);
+      inside = s.inside;
+      some = s.some;
+      fewer = omega (arith, s.fewer);
+      ready = λ g. record { new = no_blocks_ready c; old = s.ready g.old };
+      run = λ g. s.run g.old [] ∙ sym (stretch_none c w.term w.to w.new _ _ (n g.new));
+      starts = λ g. s.starts g.old 0 ∙ sym (stretch_none c w.term w.to w.new _ _ (n g.new));
+      rest = λ g. rw (n g.new, no_blocks_ahead c w.term w.to) (s.rest g.old);
     }
-  where
-    empty : r.len ≡ 0
-    empty = omega arith
 
-    none : ReadyWalk c w → ahead_of c w.term w.to w.new ≡ []
-    none g = s.none g.new empty
+-- nothing is ahead of a walk: it has no next run
+pub no_next_run : (c : List ℕ) (w : Walk) → ahead c w ≡ [] → (next_run c w ≡ []) × (next_start c w ≡ 0)
+no_next_run c w e =
+    let both = append_empty (ahead_of c w.term w.to w.new) (ahead_of c w.term w.to w.old) e in
+    (
+      stretch_none c w.term w.to w.new _ _ both.0 ∙ stretch_none c w.term w.to w.old _ _ both.1,
+      stretch_none c w.term w.to w.new _ _ both.0 ∙ stretch_none c w.term w.to w.old _ _ both.1,
+    )
 
-    kept : ReadyWalk c w → keep (is_wanted w.term w.new.after w.to) (pairs_at c (places_of c w.new)) ≡ []
-    kept g = map_nil position _ (unfold postings in none g)
+-- the walk that has nothing ahead
+abbrev pub empty : Walk
+empty = record { term = 0; to = 0; new = no_blocks; old = no_blocks }
 
-    behind : ReadyWalk c w → ahead_of c w.term w.to r.rest ≡ []
-    behind g = sym (rw empty at (s.rest g.new)) ∙ none g
+pub empty_ready : (c : List ℕ) → ReadyWalk c empty
+empty_ready c = record { new = no_blocks_ready c; old = no_blocks_ready c }
+
+pub empty_ahead : (c : List ℕ) → ahead c empty ≡ []
+empty_ahead c = rw (no_blocks_ahead c 0 0)

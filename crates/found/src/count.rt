@@ -13,16 +13,11 @@ fn count_stretch(card: &[u32], term: u32, to: u32, s: Stretch) -> usize
     ensures { result ≡ length (ahead_of card.now term to s) }
 {
     let k = Configuration::of(card);
-    let after = s.after;
-    let mut place = s.place;
-    let mut blocks = s.blocks;
     let mut count: usize = 0;
-    while 0 < blocks {
-        let part = place_part(card, place, term, after, to);
+    for j in 0..s.blocks {
+        let part = place_part(card, k.place_on(s.place, j), term, s.after, to);
         let len = part.len;
         count += len;
-        place = k.place_on(place, 1);
-        blocks -= 1;
     }
     count
 }

@@ -3,25 +3,24 @@
 #![tactic(auto)]
 
 ghost use Rattle.std.specs.Prelude.{◌≡◌};
+ghost use Rattle.refusal.specs.Refusal.{number_of};
 ghost use Rattle.found.specs.Found.{question_number};
+
+use refusal::Refusal;
 
 mod count; // how many wanted positions are ahead of a walk
 mod map; // the blocks that are read, found by the map
 pub mod walk; // the blocks that are read, one run of wanted positions after another
 
-// The number of a question that is none.
-const NO_QUESTION: u32 = 9;
-
-// The number of a question that is refused, 0 where it is not.
-pub fn question_number(card: &[u32], term: u32, from: u32, to: u32) -> u32
-    ensures { result ≡ question_number card.now term from to }
+// Whether a question is refused: its card, or a term and positions that are none.
+pub fn check_question(card: &[u32], term: u32, from: u32, to: u32) -> Result<(), Refusal>
+    ensures { number_of result ≡ question_number card.now term from to }
 {
-    let number = judge::judge(card);
-    if number != 0 {
-        return number;
+    if judge::judge(card) != 0 {
+        return Err(Refusal::BadBlocks);
     }
-    if !pair::is_pair(term, from) | (to < from) {
-        return NO_QUESTION;
+    if !pair::is_pair(term, from) || to < from {
+        return Err(Refusal::NoQuestion);
     }
-    0
+    Ok(())
 }

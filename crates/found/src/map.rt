@@ -26,15 +26,6 @@ fn mapped_to(card: &[u32], k: Configuration, start: u16, len: u16, rank: u64) ->
     low
 }
 
-fn one_less(n: u16) -> u16
-    ensures { result ≡ n - 1 }
-{
-    if n == 0 {
-        return 0;
-    }
-    n - 1
-}
-
 // The blocks that are read of a segment: from the last whose map pair is at most (term, from), or else the first, up to the last whose map pair
 // is at most (term, to).
 fn span(
@@ -56,7 +47,7 @@ fn span(
         position: from,
     };
     let last = Pair { term, position: to };
-    let skipped = one_less(mapped_to(card, k, start, len, first.rank()));
+    let skipped = mapped_to(card, k, start, len, first.rank()).saturating_sub(1);
     let read = mapped_to(card, k, start, len, last.rank());
     Stretch {
         place: k.place_on(start, skipped),
@@ -71,13 +62,11 @@ fn live_after(term: u32, from: u32, to: u32, bound: u64) -> u32
     ensures { LiveAfter term from to bound result }
 {
     let last = Pair::of_rank(bound);
-    let last_term = last.term;
-    let last_position = last.position;
-    if term < last_term {
+    if term < last.term {
         return to;
     }
-    if (last_term == term) & (from <= last_position) {
-        return last_position;
+    if term == last.term && from <= last.position {
+        return last.position;
     }
     from - 1
 }

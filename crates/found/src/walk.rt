@@ -1,11 +1,16 @@
 // A walk over the blocks that a lookup reads: it finds one run of wanted positions after another, each a part of the card.
-ghost use Rattle.found.specs.code.Walk.{PlacePart, Sought, WalkStarted, WalkCounted, Next};
+ghost use Rattle.std.specs.Prelude.{◌≡◌, [], IfOk, IfSome, IsNone};
+ghost use Rattle.refusal.specs.Refusal.{number_of};
+ghost use Rattle.found.specs.Found.{question_number};
+ghost use Rattle.found.specs.code.Segment.{LookupWalk, WalkCounted};
+ghost use Rattle.found.specs.code.Walk.{PlacePart, FirstRun, NextRun, Ready, ReadyWalk, ahead_of, ahead};
 
+use crate::check_question;
 use crate::count::count_ahead;
 use crate::map::opened;
-use crate::question_number;
 use card::layout;
 use card::layout::Configuration;
+use refusal::Refusal;
 use wanted::Part;
 
 // Blocks of one segment: so many places from one on, around the circle. Wanted of them are positions above after.
@@ -25,34 +30,18 @@ pub struct Walk {
     pub old: Stretch,
 }
 
-// The number of a question, 0 where it is not refused, and its walk.
-#[derive(Clone, Copy)]
-pub struct WalkStart {
-    pub number: u32,
-    pub walk: Walk,
-}
-
 // A walk at its start, and how many wanted positions are ahead of it.
 #[derive(Clone, Copy)]
 pub struct WalkCount {
-    pub start: WalkStart,
+    pub walk: Walk,
     pub count: usize,
 }
 
-// The wanted positions of the first block of a stretch that has any, as a part of the card, and the blocks behind it.
+// The wanted positions of the first block that has any, as a part of the card, and what is ahead behind it: a stretch or a walk.
 #[derive(Clone, Copy)]
-struct StretchRun {
-    start: usize,
-    len: usize,
-    rest: Stretch,
-}
-
-// The same of a walk.
-#[derive(Clone, Copy)]
-pub struct WalkRun {
-    pub start: usize,
-    pub len: usize,
-    pub rest: Walk,
+pub struct Run<T> {
+    pub part: Part,
+    pub rest: T,
 }
 
 const NO_BLOCKS: Stretch = Stretch {
@@ -61,124 +50,87 @@ const NO_BLOCKS: Stretch = Stretch {
     after: 0,
 };
 
-// Judges the card and the question, and opens its walk. Refused, the walk has no blocks.
-pub fn start_walk(card: &[u32], term: u32, from: u32, to: u32) -> WalkStart
-    ensures { WalkStarted card.now term from to result }
+impl Walk {
+    // The walk that has nothing ahead.
+    pub const EMPTY: Walk = Walk {
+        term: 0,
+        to: 0,
+        new: NO_BLOCKS,
+        old: NO_BLOCKS,
+    };
+}
+
+// Judges the card and the question, and opens its walk.
+pub fn start_walk(card: &[u32], term: u32, from: u32, to: u32) -> Result<Walk, Refusal>
+    ensures number { number_of result ≡ question_number card.now term from to }
+    ensures walk { IfOk result (LookupWalk card.now term from to) }
 {
-    let number = question_number(card, term, from, to);
-    if number != 0 {
-        return WalkStart {
-            number,
-            walk: Walk {
-                term,
-                to,
-                new: NO_BLOCKS,
-                old: NO_BLOCKS,
-            },
-        };
-    }
-    let walk = opened(card, term, from, to);
-    WalkStart { number, walk }
+    check_question(card, term, from, to)?;
+    Ok(opened(card, term, from, to))
+}
+
+// Starts a walk and counts what is ahead of it.
+pub fn start_counted(card: &[u32], term: u32, from: u32, to: u32) -> Result<WalkCount, Refusal>
+    ensures number { number_of result ≡ question_number card.now term from to }
+    ensures counted { IfOk result (WalkCounted card.now term from to) }
+{
+    let walk = start_walk(card, term, from, to)?;
+    let count = count_ahead(card, walk);
+    Ok(WalkCount { walk, count })
 }
 
 // The wanted positions of the block at a place, as a part of the card.
 pub fn place_part(card: &[u32], place: u16, term: u32, after: u32, to: u32) -> Part
     ensures { PlacePart card.now place term after to result }
 {
-    let found = wanted::block_part(layout::place(card, place), term, after, to);
-    let before = found.start;
-    let len = found.len;
-    if len == 0 {
+    let part = wanted::block_part(layout::place(card, place), term, after, to);
+    if part.len == 0 {
         return Part { start: 0, len: 0 };
     }
     Part {
-        start: layout::place_start(card, place) + before,
-        len,
+        start: layout::place_start(card, place) + part.start,
+        ..part
     }
 }
 
 // The first run of a stretch.
-fn seek(card: &[u32], term: u32, to: u32, s: Stretch) -> StretchRun
-    ensures { Sought card.now term to s result }
+fn seek(card: &[u32], term: u32, to: u32, s: Stretch) -> Option<Run<Stretch>>
+    ensures some { IfSome result (FirstRun card.now term to s) }
+    ensures none { IsNone result → Ready card.now s → ahead_of card.now term to s ≡ [] }
 {
     let k = Configuration::of(card);
-    let after = s.after;
-    let mut place = s.place;
-    let mut blocks = s.blocks;
-    while 0 < blocks {
-        let part = place_part(card, place, term, after, to);
-        let start = part.start;
-        let len = part.len;
-        place = k.place_on(place, 1);
-        blocks -= 1;
-        if 0 < len {
-            return StretchRun {
-                start,
-                len,
-                rest: Stretch {
-                    place,
-                    blocks,
-                    after,
-                },
+    for j in 0..s.blocks {
+        let part = place_part(card, k.place_on(s.place, j), term, s.after, to);
+        if 0 < part.len {
+            let rest = Stretch {
+                place: k.place_on(s.place, j + 1),
+                blocks: s.blocks - j - 1,
+                ..s
             };
+            return Some(Run { part, rest });
         }
     }
-    StretchRun {
-        start: 0,
-        len: 0,
-        rest: Stretch {
-            place,
-            blocks: 0,
-            after,
-        },
-    }
+    None
 }
 
 // The next run of a walk.
-pub fn next_run(card: &[u32], w: Walk) -> WalkRun
-    ensures { Next card.now w result }
+pub fn next_run(card: &[u32], w: Walk) -> Option<Run<Walk>>
+    ensures some { IfSome result (NextRun card.now w) }
+    ensures none { IsNone result → ReadyWalk card.now w → ahead card.now w ≡ [] }
 {
-    let term = w.term;
-    let to = w.to;
-    let new = w.new;
-    let old = w.old;
-    let first = seek(card, term, to, new);
-    let start = first.start;
-    let len = first.len;
-    let new_rest = first.rest;
-    if 0 < len {
-        return WalkRun {
-            start,
-            len,
-            rest: Walk {
-                term,
-                to,
-                new: new_rest,
-                old,
-            },
-        };
+    if let Some(run) = seek(card, w.term, w.to, w.new) {
+        return Some(Run {
+            part: run.part,
+            rest: Walk { new: run.rest, ..w },
+        });
     }
-    let second = seek(card, term, to, old);
-    let start = second.start;
-    let len = second.len;
-    let old_rest = second.rest;
-    WalkRun {
-        start,
-        len,
+    let run = seek(card, w.term, w.to, w.old)?;
+    Some(Run {
+        part: run.part,
         rest: Walk {
-            term,
-            to,
-            new: new_rest,
-            old: old_rest,
+            new: NO_BLOCKS,
+            old: run.rest,
+            ..w
         },
-    }
-}
-
-// Starts a walk and counts what is ahead of it.
-pub fn start_counted(card: &[u32], term: u32, from: u32, to: u32) -> WalkCount
-    ensures { WalkCounted card.now term from to result }
-{
-    let start = start_walk(card, term, from, to);
-    let count = count_ahead(card, start.walk);
-    WalkCount { start, count }
+    })
 }

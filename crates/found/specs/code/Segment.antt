@@ -9,6 +9,7 @@ use Rattle.card.specs.code.Configuration.{Ordered}
 use Rattle.card.specs.declared.layout.Configuration.{Configuration}
 use Rattle.found.specs.declared.walk.Stretch.{Stretch}
 use Rattle.found.specs.declared.walk.Walk.{Walk}
+use Rattle.found.specs.declared.walk.WalkCount.{WalkCount}
 use Rattle.found.specs.Found.{found, mapped_to, span, blocks_read}
 use Rattle.found.specs.Views.{run, run_start}
 use Rattle.found.specs.code.Walk.{ahead, blocks_of, next_run, next_start, ReadyWalk}
@@ -40,3 +41,8 @@ pub record LookupWalk (c : List ℕ) (t a z : ℕ) (w : Walk) : Type 0 where
   pub blocks : blocks_of w ≡ blocks_read c t a z
   pub run : next_run c w ≡ run c t a z
   pub start : next_start c w ≡ run_start c t a z
+
+-- the same with the count of what is ahead of it
+pub record WalkCounted (c : List ℕ) (t a z : ℕ) (r : WalkCount) : Type 0 where
+  pub walk : LookupWalk c t a z r.walk
+  pub count : r.count ≡ length (ahead c r.walk)

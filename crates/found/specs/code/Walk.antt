@@ -9,12 +9,7 @@ use Rattle.card.specs.Layout.{place_count, place_at, place, around, pairs_at}
 use Rattle.card.specs.code.Configuration.{Shaped}
 use Rattle.found.specs.declared.walk.Stretch.{Stretch}
 use Rattle.found.specs.declared.walk.Walk.{Walk}
-use Rattle.found.specs.declared.walk.StretchRun.{StretchRun}
-use Rattle.found.specs.declared.walk.WalkStart.{WalkStart}
-use Rattle.found.specs.declared.walk.WalkCount.{WalkCount}
-use Rattle.found.specs.declared.walk.WalkRun.{WalkRun}
-use Rattle.found.specs.Found.{found, question_number, blocks_read}
-use Rattle.found.specs.Views.{run, run_start}
+use Rattle.found.specs.declared.walk.Run.{Run}
 
 -- the part lies in the card; of a live block it has the wanted positions, and starts where the first of them stands
 pub record PlacePart (c : List ℕ) (i t a z : ℕ) (r : Part) : Type 0 where
@@ -54,23 +49,21 @@ first_run c t z s none = run_of c (is_wanted t s.after z) (places_of c s) none
 abbrev pub first_start : List ℕ → ℕ → ℕ → Stretch → ℕ → ℕ
 first_start c t z s none = run_start_of c (is_wanted t s.after z) (places_of c s) none
 
--- a stretch that has blocks lies in a card of the right shape, and they are live blocks
+-- a stretch that has blocks is one of a card of the right shape, and they are live blocks
 pub record Ready (c : List ℕ) (s : Stretch) : Type 0 where
   pub shape : 0 < s.blocks → Shaped c
-  pub within : 0 < s.blocks → s.place < place_count c
   pub live : Each (λ i. formed (place c i) ≡ true) (places_of c s)
 
--- what the search of a stretch answers
-pub record Sought (c : List ℕ) (t z : ℕ) (s : Stretch) (r : StretchRun) : Type 0 where
-  pub inside : r.start + r.len ≤ length c
-  pub most : r.rest.blocks ≤ s.blocks
-  pub fewer : 0 < r.len → r.rest.blocks < s.blocks
-  pub spent : r.len ≡ 0 → r.rest.blocks ≡ 0
+-- the first run of a stretch: a part of the card, with fewer blocks behind it; of live blocks it is their first run, whatever stands for none,
+-- and what was ahead is the run and what is ahead behind it
+pub record FirstRun (c : List ℕ) (t z : ℕ) (s : Stretch) (r : Run Stretch) : Type 0 where
+  pub inside : r.part.start + r.part.len ≤ length c
+  pub some : 0 < r.part.len
+  pub fewer : r.rest.blocks < s.blocks
   pub ready : Ready c s → Ready c r.rest
-  pub run : Ready c s → take r.len (drop r.start c) ≡ first_run c t z s []
-  pub starts : Ready c s → r.start ≡ first_start c t z s 0
-  pub rest : Ready c s → ahead_of c t z s ≡ take r.len (drop r.start c) ++ ahead_of c t z r.rest
-  pub none : Ready c s → r.len ≡ 0 → ahead_of c t z s ≡ []
+  pub run : Ready c s → (none : List ℕ) → take r.part.len (drop r.part.start c) ≡ first_run c t z s none
+  pub starts : Ready c s → (none : ℕ) → r.part.start ≡ first_start c t z s none
+  pub rest : Ready c s → ahead_of c t z s ≡ take r.part.len (drop r.part.start c) ++ ahead_of c t z r.rest
 
 -- the same of a walk
 abbrev pub ahead : List ℕ → Walk → List ℕ
@@ -90,30 +83,13 @@ pub record ReadyWalk (c : List ℕ) (w : Walk) : Type 0 where
   pub new : Ready c w.new
   pub old : Ready c w.old
 
--- a walk at its start: the question's number, and ahead of it what is found, whose first run is the run view; nothing, and no block, where the
--- question is refused
-pub record WalkStarted (c : List ℕ) (t a z : ℕ) (r : WalkStart) : Type 0 where
-  pub number : r.number ≡ question_number c t a z
-  pub ready : ReadyWalk c r.walk
-  pub wanted : ahead c r.walk ≡ cond (eqb (question_number c t a z) 0) (found c t a z) []
-  pub few : length (ahead c r.walk) < word_limit
-  pub blocks : blocks_of r.walk ≡ cond (eqb (question_number c t a z) 0) (blocks_read c t a z) 0
-  pub run : next_run c r.walk ≡ run c t a z
-  pub start : next_start c r.walk ≡ run_start c t a z
-
--- the same with the count of what is ahead of it
-pub record WalkCounted (c : List ℕ) (t a z : ℕ) (r : WalkCount) : Type 0 where
-  pub started : WalkStarted c t a z r.start
-  pub counted : r.count ≡ length (ahead c r.start.walk)
-
--- the next run of a walk: a part of the card with fewer blocks behind it, none behind an empty one; of a walk over live blocks it is the next run,
--- and what was ahead is the run and what is ahead behind it
-pub record Next (c : List ℕ) (w : Walk) (r : WalkRun) : Type 0 where
-  pub inside : r.start + r.len ≤ length c
-  pub fewer : 0 < r.len → blocks_of r.rest < blocks_of w
-  pub spent : r.len ≡ 0 → blocks_of r.rest ≡ 0
+-- the next run of a walk: a part of the card, with fewer blocks behind it; of a walk over live blocks it is the next run, and what was ahead is
+-- the run and what is ahead behind it
+pub record NextRun (c : List ℕ) (w : Walk) (r : Run Walk) : Type 0 where
+  pub inside : r.part.start + r.part.len ≤ length c
+  pub some : 0 < r.part.len
+  pub fewer : blocks_of r.rest < blocks_of w
   pub ready : ReadyWalk c w → ReadyWalk c r.rest
-  pub run : ReadyWalk c w → take r.len (drop r.start c) ≡ next_run c w
-  pub starts : ReadyWalk c w → r.start ≡ next_start c w
-  pub rest : ReadyWalk c w → ahead c w ≡ take r.len (drop r.start c) ++ ahead c r.rest
-  pub none : ReadyWalk c w → r.len ≡ 0 → ahead c w ≡ []
+  pub run : ReadyWalk c w → take r.part.len (drop r.part.start c) ≡ next_run c w
+  pub starts : ReadyWalk c w → r.part.start ≡ next_start c w
+  pub rest : ReadyWalk c w → ahead c w ≡ take r.part.len (drop r.part.start c) ++ ahead c r.rest
