@@ -136,47 +136,40 @@ pub ahead_most : (c : List ℕ) (t z : ℕ) (s : Stretch) (j : ℕ) → j ≤ s.
 ahead_most c t z s j h =
     omega (arith, ap length (ahead_split c t z s j h) ∙ length-append (ahead_to c t z s j) (ahead_from c t z s j))
 
--- The block j of a stretch is read.
-module _ {c : List ℕ} {t z : ℕ} {s : Stretch} {k : Configuration} {j q : ℕ} {x : Part} (o : ConfigurationOf c k) (h : j < s.blocks) (e : q ≡ place_on k.places s.place j) (y : PlacePart c q t s.after z x) where
-  abbrev here : ℕ
-  here = (s.place + j) % place_count c
+-- The block j of a stretch is read, whose place is the first of these.
+abbrev places_from : List ℕ → Stretch → ℕ → List ℕ
+places_from c s j = (s.place + j) % place_count c ∷ around (place_count c) (s.place + (j + 1)) (s.blocks - (j + 1))
 
-  abbrev upto : List ℕ
-  upto = around (place_count c) s.place j
+module _ (c : List ℕ) (s : Stretch) (j : ℕ) (h : j < s.blocks) where
+  split : places_of c s ≡ around (place_count c) s.place j ++ places_from c s j
+  split =
+      let n : j + (s.blocks - j) ≡ s.blocks = omega arith in
+      rw n at (around_add (place_count c) s.place j (s.blocks - j))
+      ∙ ap (λ l. around (place_count c) s.place j ++ l) (around_cons (place_count c) s.place s.blocks j h)
 
-  abbrev behind : List ℕ
-  behind = around (place_count c) (s.place + (j + 1)) (s.blocks - (j + 1))
+  live_from : Ready c s → Each (λ i. formed (place c i) ≡ true) (places_from c s j)
+  live_from r = each_second _ (around (place_count c) s.place j) (places_from c s j) (rw split at r.live)
 
-  abbrev part : List ℕ
-  part = take x.len (drop x.start c)
-
-  abbrev f : ℕ → Bool
-  f = is_wanted t s.after z
-
-  -- its place is that of the circle
-  on : Ready c s → (i : ℕ) → place_on k.places s.place i ≡ (s.place + i) % place_count c
+  -- the code's places are those of the circle
+  on : {k : Configuration} → ConfigurationOf c k → Ready c s → (i : ℕ) → place_on k.places s.place i ≡ (s.place + i) % place_count c
   unfolding place_on
-  on r i =
+  on {k} o r i =
       let shape = r.shape (omega arith) in
       let n : k.places ≡ place_count c = omega (arith, o.of_places, shape.count_high) in
       rw (n, ne_eqb (place_count c) 0 (omega (arith, shape.count_low)))
 
-  split : places_of c s ≡ upto ++ (here ∷ behind)
-  split =
-      let n : j + (s.blocks - j) ≡ s.blocks = omega arith in
-      rw n at (around_add (place_count c) s.place j (s.blocks - j))
-      ∙ ap (λ l. upto ++ l) (around_cons (place_count c) s.place s.blocks j h)
-
-  live : Ready c s → Each (λ i. formed (place c i) ≡ true) (here ∷ behind)
-  live r = each_second _ upto (here ∷ behind) (rw split at r.live)
-
-  has_part : Ready c s → part ≡ map position (keep f (pairs (place c here)))
-  has_part r = rw (e ∙ on r j) at y.positions (live r).0
+module _ {c : List ℕ} {t z : ℕ} {s : Stretch} {k : Configuration} {j q : ℕ} {x : Part} (o : ConfigurationOf c k) (h : j < s.blocks) (e : q ≡ place_on k.places s.place j) (y : PlacePart c q t s.after z x) where
+  has_part :
+      Ready c s →
+      take x.len (drop x.start c) ≡ map position (keep (is_wanted t s.after z) (pairs (place c ((s.place + j) % place_count c))))
+  has_part r = rw (e ∙ on c s j h o r j) at y.positions (live_from c s j h r).0
 
   -- it adds its part,
-  pub ahead_turn : Ready c s → ahead_to c t z s (j + 1) ≡ ahead_to c t z s j ++ part
+  pub ahead_turn : Ready c s → ahead_to c t z s (j + 1) ≡ ahead_to c t z s j ++ take x.len (drop x.start c)
   ahead_turn r =
-      ap (postings c f) (around_more (place_count c) s.place j) ∙ postings_append c f upto (here ∷ [])
+      let f = is_wanted t s.after z in
+      let here = (s.place + j) % place_count c in
+      ap (postings c f) (around_more (place_count c) s.place j) ∙ postings_append c f (around (place_count c) s.place j) (here ∷ [])
       ∙ ap (λ l. ahead_to c t z s j ++ l) (postings_cons c f here [] ∙ rw (postings_none c f) (append-nil _) ∙ sym (has_part r))
 
   -- or is the first that has any.
@@ -188,28 +181,32 @@ module _ {c : List ℕ} {t z : ℕ} {s : Stretch} {k : Configuration} {j q : ℕ
         inside = y.inside;
         some = l;
         fewer = omega arith;
-        ready = λ r. record { shape = λ b. r.shape (omega arith); live = rw (rest_places r) (live r).1 };
+        ready = λ r. record { shape = λ b. r.shape (omega arith); live = rw (rest_places r) (live_from c s j h r).1 };
         run = λ r none. has_part r ∙ sym (first r none);
-        starts = λ r none. rw (e ∙ on r j) at (y.before (rw (← e ∙ on r j) (live r).0) l) ∙ sym (first r none);
+        starts = λ r none.
+            let at : q ≡ (s.place + j) % place_count c = e ∙ on c s j h o r j in
+            rw at at (y.before (rw at (live_from c s j h r).0) l) ∙ sym (first r none);
         rest = λ r. ahead_split c t z s (j + 1) (omega arith) ∙ rw (ahead_turn r, n r, rest_places r);
       }
     where
-      rest_places : Ready c s → around (place_count c) p (s.blocks - j - 1) ≡ behind
+      rest_places : Ready c s → around (place_count c) p (s.blocks - j - 1) ≡ around (place_count c) (s.place + (j + 1)) (s.blocks - (j + 1))
       rest_places r =
           let b : s.blocks - j - 1 ≡ s.blocks - (j + 1) = omega arith in
-          rw (d ∙ on r (j + 1), b) (around_mod (place_count c) (s.place + (j + 1)) (s.blocks - (j + 1)))
+          rw (d ∙ on c s j h o r (j + 1), b) (around_mod (place_count c) (s.place + (j + 1)) (s.blocks - (j + 1)))
 
-      some : Ready c s → 0 < length (keep f (pairs (place c here)))
+      some : Ready c s → 0 < length (keep (is_wanted t s.after z) (pairs (place c ((s.place + j) % place_count c))))
       some r =
-          let e : length part ≡ length (keep f (pairs (place c here)))
-          = ap length (has_part r) ∙ length-map (keep f (pairs (place c here))) position in
+          let kept = keep (is_wanted t s.after z) (pairs (place c ((s.place + j) % place_count c))) in
+          let e : length (take x.len (drop x.start c)) ≡ length kept = ap length (has_part r) ∙ length-map kept position in
           let m = length_part c x.start x.len y.inside in
           omega arith
 
-      first : {A : Type 0} {has : ℕ → A} → Ready c s → (none : A) → at_first c f has (places_of c s) none ≡ has here
+      first : {A : Type 0} {has : ℕ → A} → Ready c s → (none : A) → at_first c (is_wanted t s.after z) has (places_of c s) none ≡ has ((s.place + j) % place_count c)
       first {A} {has} r none =
-          ap (λ is. at_first c f has is none) split ∙ first_append c f has upto (here ∷ behind) none
-          ∙ first_none c f has upto _ (map_nil position _ (unfold postings in n r)) ∙ first_hit c f has here behind none (some r)
+          let f = is_wanted t s.after z in
+          let before = around (place_count c) s.place j in
+          ap (λ is. at_first c f has is none) (split c s j h) ∙ first_append c f has before (places_from c s j) none
+          ∙ first_none c f has before _ (map_nil position _ (unfold postings in n r)) ∙ first_hit c f has _ _ none (some r)
 
 -- nothing is wanted so far
 pub seek_turn :

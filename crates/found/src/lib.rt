@@ -16,9 +16,7 @@ pub mod walk; // the blocks that are read, one run of wanted positions after ano
 pub fn check_question(card: &[u32], term: u32, from: u32, to: u32) -> Result<(), Refusal>
     ensures { number_of result ≡ question_number card.now term from to }
 {
-    if judge::judge(card) != 0 {
-        return Err(Refusal::BadBlocks);
-    }
+    judge::judge(card)?;
     if !pair::is_pair(term, from) || to < from {
         return Err(Refusal::NoQuestion);
     }
