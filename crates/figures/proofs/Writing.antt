@@ -6,7 +6,7 @@ use mathlib.Core.Logic.{◌≢◌}
 use mathlib.Core.List.{List, [], ◌∷◌, ◌++◌, append_assoc, append-nil}
 use borrow.Author.Tests.{le-leb, lt-leb}
 use lib.ListN.{length, set, length-append}
-use lib.Seq.{sets, length-sets}
+use lib.Seq.{sets}
 use Rattle.pair.specs.Rank.{word_limit}
 use Rattle.pair.proofs.Lists.{set_sets}
 use Rattle.figures.specs.Figures.{figure, decimal}
@@ -30,52 +30,43 @@ counting_turn {n} {count} {rest} c h = record { all = c.all ∙ omega (arith, ap
 pub counting_end : {n count rest : ℕ} → Counting n count rest → rest ≡ 0 → count ≡ length (decimal n)
 counting_end {n} {count} {rest} c h = sym (c.all ∙ omega (arith, ap length (leading_none rest h)))
 
--- the figures behind the first before of them are written; these are the figures of rest
-pub record Writing (l : List ℕ) (at n : ℕ) (now : List ℕ) (before rest : ℕ) : Type 0 where
+-- the figures from place end on are written; those before it are the figures of rest
+pub record Writing (l : List ℕ) (at n : ℕ) (now : List ℕ) (end rest : ℕ) : Type 0 where
   pub first : List ℕ
   pub done : List ℕ
   pub all : decimal n ≡ first ++ done
-  pub count : before ≡ length first
-  pub of_rest : before ≢ 0 → first ≡ decimal rest
-  pub same : now ≡ sets l (at + before) done
+  pub count : end ≡ at + length first
+  pub of_rest : at < end → first ≡ decimal rest
+  pub same : now ≡ sets l end done
 
-pub writing_start : (l : List ℕ) (at n before : ℕ) → before ≡ length (decimal n) → Writing l at n l before n
-writing_start l at n before e =
+pub writing_start : (l : List ℕ) (at n : ℕ) {end : ℕ} → end ≡ at + length (decimal n) → Writing l at n l end n
+writing_start l at n e =
     record { first = decimal n; done = []; all = sym (append-nil (decimal n)); count = e; of_rest = λ h. refl; same = refl }
 
-pub writing_length : {l : List ℕ} {at n : ℕ} {now : List ℕ} {before rest : ℕ} → Writing l at n now before rest → length now ≡ length l
-writing_length {l} {at} {n} {now} {before} w = ap length w.same ∙ length-sets l (at + before) w.done
-
--- the first figures are no more than all
-pub writing_few : {l : List ℕ} {at n : ℕ} {now : List ℕ} {before rest : ℕ} → Writing l at n now before rest → before ≤ length (decimal n)
-writing_few w = omega (arith, w.count, ap length w.all ∙ length-append w.first w.done)
-
 pub writing_turn :
-    {l : List ℕ} {at n : ℕ} {now : List ℕ} {before rest b : ℕ} → Writing l at n now before rest → before ≢ 0 → b ≡ figure (rest % 10) →
-    Writing l at n (set now (at + (before - 1)) b) (before - 1) (rest / 10)
-writing_turn {l} {at} {n} {now} {before} {rest} {b} w h e =
+    {l : List ℕ} {at n : ℕ} {now : List ℕ} {end rest b : ℕ} → Writing l at n now end rest → at < end → b ≡ figure (rest % 10) →
+    Writing l at n (set now (end - 1) b) (end - 1) (rest / 10)
+writing_turn {l} {at} {n} {now} {end} {rest} {b} w h e =
     let split : w.first ≡ leading (rest / 10) ++ b ∷ [] = w.of_rest h ∙ decimal_last rest ∙ ap (λ x. leading (rest / 10) ++ x ∷ []) (sym e) in
-    let count : before - 1 ≡ length (leading (rest / 10)) =
-    omega (arith, w.count, h, ap length split ∙ length-append (leading (rest / 10)) (b ∷ [])) in
-    let s : at + before ≡ suc (at + (before - 1)) = omega (arith, h) in
+    let count : end - 1 ≡ at + length (leading (rest / 10)) = omega (arith, w.count, h, ap length split ∙ length-append (leading (rest / 10)) (b ∷ [])) in
+    let s : end ≡ suc (end - 1) = omega (arith, h) in
     record {
       first = leading (rest / 10);
       done = b ∷ w.done;
       all = w.all ∙ ap (λ x. x ++ w.done) split ∙ append_assoc (leading (rest / 10)) (b ∷ []) w.done;
       count = count;
-      of_rest = λ k. leading_some (rest / 10) (λ z. k (count ∙ ap length (leading_none (rest / 10) z)));
-      same = ap (λ m. set m (at + (before - 1)) b) (w.same ∙ ap (λ i. sets l i w.done) s)
-          ∙ set_sets w.done l (suc (at + (before - 1))) (at + (before - 1)) b (omega arith);
+      of_rest = λ k. leading_some (rest / 10) (λ z. omega (arith, k, count, ap length (leading_none (rest / 10) z)));
+      same = ap (λ m. set m (end - 1) b) (w.same ∙ ap (λ j. sets l j w.done) s) ∙ set_sets w.done l (suc (end - 1)) (end - 1) b (omega arith);
     }
 
 pub writing_end :
-    {l : List ℕ} {at n : ℕ} {now : List ℕ} {before rest : ℕ} → Writing l at n now before rest → before ≡ 0 → at + length (decimal n) ≤ length l →
+    {l : List ℕ} {at n : ℕ} {now : List ℕ} {end rest : ℕ} → Writing l at n now end rest → end ≤ at → at + length (decimal n) ≤ length l →
     now ≡ put_number l at n
 unfolding put_number
-writing_end {l} {at} {n} {now} {before} {rest} w z h =
-    let none : w.first ≡ [] = empty w.first (sym w.count ∙ z) in
+writing_end {l} {at} {n} {now} {end} {rest} w z h =
+    let none : w.first ≡ [] = empty w.first (omega (arith, w.count, z)) in
+    let start : end ≡ at = omega (arith, w.count, z) in
     let whole : decimal n ≡ w.done = w.all ∙ ap (λ x. x ++ w.done) none in
-    let start : at + before ≡ at = omega (arith, z) in
     rw (le-leb (at + length (decimal n)) (length l) h) (w.same ∙ ap (λ i. sets l i w.done) start ∙ ap (sets l at) (sym whole))
   where
     empty : (xs : List ℕ) → length xs ≡ 0 → xs ≡ []

@@ -2,58 +2,36 @@
 
 #![tactic(auto)]
 
-ghost use Rattle.std.specs.Prelude.{◌≡◌, ◌%◌, ◌<◌, length};
-ghost use Rattle.pair.specs.Rank.{word_limit};
+ghost use Rattle.std.specs.Prelude.{◌≡◌, ◌%◌, length};
 ghost use Rattle.figures.specs.Figures.{figure, decimal};
 ghost use Rattle.figures.specs.code.Reading.{number_in, with_figure, put_number};
 
-// What is read where bytes show no number: more than any word.
-pub const NO_NUMBER: u64 = 4_294_967_296;
-
-// The value of a byte in a wider type.
-fn wide(byte: u8) -> u64
-    ensures { result ≡ byte }
-{
-    byte as u64
-}
-
-// The number with a figure more.
-fn with_figure(value: u64, byte: u8) -> u64
-    requires { value < word_limit }
+// The number with a figure more; none where the byte is no figure, or no word holds it.
+fn with_figure(value: u32, byte: u8) -> Option<u32>
     ensures { result ≡ with_figure value byte }
 {
-    if (byte < b'0') | (b'9' < byte) {
-        return NO_NUMBER;
+    if !byte.is_ascii_digit() {
+        return None;
     }
-    let longer = 10 * value + wide(byte - b'0');
-    let too_large = NO_NUMBER <= longer;
-    if too_large {
-        return NO_NUMBER;
-    }
-    longer
+    let longer = value.checked_mul(10)?;
+    longer.checked_add(u32::from(byte - b'0'))
 }
 
 // The number that bytes show: figures without leading zeros, of a number that a word holds.
-pub fn number(bytes: &[u8]) -> u64
+pub fn number(bytes: &[u8]) -> Option<u32>
     ensures { result ≡ number_in bytes.now }
 {
-    if bytes.len() == 0 {
-        return NO_NUMBER;
+    if bytes.is_empty() {
+        return None;
     }
-    if (bytes.len() != 1) & (bytes[0] == b'0') {
-        return NO_NUMBER;
+    if bytes.len() != 1 && bytes[0] == b'0' {
+        return None;
     }
-    let mut value: u64 = 0;
-    let mut i: usize = 0;
-    while i < bytes.len() {
-        let longer = with_figure(value, bytes[i]);
-        if longer == NO_NUMBER {
-            return NO_NUMBER;
-        }
-        value = longer;
-        i += 1;
+    let mut value: u32 = 0;
+    for &byte in bytes {
+        value = with_figure(value, byte)?;
     }
-    value
+    Some(value)
 }
 
 // The byte of a number's last figure.
@@ -80,17 +58,13 @@ pub fn figure_count(n: u32) -> usize
 pub fn put_number(memory: &mut [u8], at: usize, n: u32)
     ensures { memory.new ≡ put_number memory.old at n }
 {
-    let mut before = figure_count(n);
-    if memory.len() < before {
-        return;
-    }
-    if memory.len() - before < at {
+    let count = figure_count(n);
+    if memory.len() < count || memory.len() - count < at {
         return;
     }
     let mut rest = n;
-    while before != 0 {
-        before -= 1;
-        memory[at + before] = last_figure(rest);
+    for i in (at..at + count).rev() {
+        memory[i] = last_figure(rest);
         rest = rest / 10;
     }
 }

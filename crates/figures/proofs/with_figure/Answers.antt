@@ -1,16 +1,16 @@
 -- `figures::with_figure` meets its contract: a law for each way out.
-use native.Mathlib.Omega.{arith}
-use mathlib.Core.Path.{sym}
-use Rattle.figures.proofs.Reading.{figured, figured_large, figured_other, no_figure, a_figure}
+use Rattle.std.proofs.Common.{sym, ◌∙◌, arith}
+use Rattle.figures.specs.Figures.{is_figure}
+use Rattle.figures.proofs.Reading.{figured, figured_large, figured_other}
 use Rattle.figures.proofs.with_figure.Goals as goal
 
-pub returns-then-byte : goal.returns-then-byte
-returns-then-byte c = sym (figured_other _ _ (no_figure _ c.if-byte.true))
+pub returns-then-not-is_ascii_digit : goal.returns-then-not-is_ascii_digit
+unfolding is_figure
+returns-then-not-is_ascii_digit c = sym (figured_other c.args.value c.args.byte (sym c.is_ascii_digit.ensures.value ∙ c.if-not-is_ascii_digit.true))
 
-pub returns-then-too_large : goal.returns-then-too_large
-returns-then-too_large c = sym (figured_large _ _ (omega (arith, c.if-too_large.true, c.wide.ensures)))
+pub returns-in_err-longer : goal.returns-in_err-longer
+returns-in_err-longer c = c.from_residual.ensures ∙ sym (figured_large c.args.value c.args.byte (omega (arith, c.in_err-longer.ensures)))
 
 pub returns : goal.returns
-returns c =
-    let e = c.wide.ensures in
-    rw e (sym (figured _ _ (a_figure _ c.if-byte.false) (omega (arith, c.if-too_large.false, e))))
+unfolding is_figure
+returns c = figured c.args.value c.args.byte (sym c.is_ascii_digit.ensures.value ∙ c.if-not-is_ascii_digit.false) (omega (arith, c.in_ok-longer.ensures, c.from.ensures)) c.checked_add.ensures
