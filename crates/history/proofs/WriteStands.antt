@@ -15,8 +15,7 @@ use Rattle.card.specs.Sound.{judged}
 use Rattle.card.proofs.Facts.{facts}
 use Rattle.card.proofs.Frame.{Alike, word_alike}
 use Rattle.pair.proofs.Lists.{word_sets_before, word_sets_after}
-use Rattle.span.specs.declared.WriteSpan.{WriteSpan}
-use Rattle.span.specs.Span.{write_span}
+use Rattle.span.specs.Span.{WriteSpan, write_span}
 use Rattle.update.specs.Step.{Write, with_write, remains, configured, next_boundary, freed, grown, configuration, next_write, the_write, step_number, taken, refused, step}
 use Rattle.update.proofs.Frame.{due_place_alike}
 use Rattle.update.proofs.Steps.{accepted, step_taken, step_refused, step_writes}

@@ -3,58 +3,33 @@
 #![tactic(auto)]
 
 ghost use Rattle.std.specs.Prelude.{◌≡◌};
-ghost use Rattle.span.specs.Span.{write_span};
+ghost use Rattle.span.specs.Span.{write_span, answered};
 
 use card::layout;
 use card::layout::{CONFIGURATION_WORDS, Configuration};
+use refusal::Refusal;
 
-// The number of a card that is refused; where in the card a write stands and how many words it has.
+// So many words of the card, from one on.
 #[derive(Clone, Copy)]
-pub struct WriteSpan {
-    pub number: u32,
+pub struct Span {
     pub start: usize,
     pub count: usize,
 }
 
-// Where a write of a step stands in the card that the step left; no words for a write that is none of the three, nor where the card is refused.
-pub fn write_span(card: &[u32], write: u32) -> WriteSpan
-    ensures { result ≡ write_span card.now write }
+// Where a write of a step stands in the card that the step left; no words for a write that is none of the three.
+pub fn write_span(card: &[u32], write: u32) -> Result<Span, Refusal>
+    ensures { answered result ≡ write_span card.now write }
 {
-    let judged = judge::judge(card);
-    if judged != 0 {
-        return WriteSpan {
-            number: judged,
-            start: 0,
-            count: 0,
-        };
-    }
+    judge::judge(card)?;
     let k = Configuration::of(card);
     let place = k.due_place();
-    let is_block = write == 1;
-    if is_block {
-        return WriteSpan {
-            number: 0,
-            start: layout::place_start(card, place),
-            count: k.size as usize,
-        };
-    }
-    if write == 2 {
-        return WriteSpan {
-            number: 0,
-            start: layout::entry_start(card, place),
-            count: layout::width_of(k.format) as usize,
-        };
-    }
-    if write == 3 {
-        return WriteSpan {
-            number: 0,
-            start: 0,
-            count: CONFIGURATION_WORDS,
-        };
-    }
-    WriteSpan {
-        number: 0,
-        start: 0,
-        count: 0,
-    }
+    let block = layout::place_start(card, place);
+    let entry = layout::entry_start(card, place);
+    let (start, count) = match write {
+        1 => (block, k.size as usize),
+        2 => (entry, layout::width_of(k.format) as usize),
+        3 => (0, CONFIGURATION_WORDS),
+        _ => (0, 0),
+    };
+    Ok(Span { start, count })
 }
