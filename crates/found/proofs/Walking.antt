@@ -1,6 +1,5 @@
 -- The walk over the blocks that a lookup reads: what is ahead of it, block by block.
-use Prim.Native.Nat.{ℕ, zero, suc, ◌+◌, ◌-◌, ◌%◌, ◌≤◌, ◌<◌, zero-le}
-use native.Mathlib.Nat.{mod-eq_of_lt, mod-lt}
+use Prim.Native.Nat.{ℕ, suc, ◌+◌, ◌-◌, ◌%◌, ◌≤◌, ◌<◌, zero-le}
 use native.Mathlib.Omega.{arith}
 use mathlib.Core.Path.{◌≡◌, refl, sym, ap, ◌∙◌}
 use mathlib.Core.Bool.{Bool, true}
@@ -172,6 +171,11 @@ module _ {c : List ℕ} {t z : ℕ} {s : Stretch} {k : Configuration} {j q : ℕ
       ap (postings c f) (around_more (place_count c) s.place j) ∙ postings_append c f (around (place_count c) s.place j) (here ∷ [])
       ∙ ap (λ l. ahead_to c t z s j ++ l) (postings_cons c f here [] ∙ rw (postings_none c f) (append-nil _) ∙ sym (has_part r))
 
+  pub length_turn : Ready c s → length (ahead_to c t z s (j + 1)) ≡ length (ahead_to c t z s j) + x.len
+  length_turn r =
+      ap length (ahead_turn r) ∙ length-append (ahead_to c t z s j) (take x.len (drop x.start c))
+      ∙ ap (λ n. length (ahead_to c t z s j) + n) (length_part c x.start x.len y.inside)
+
   -- or is the first that has any.
   pub seek_hit :
       (Ready c s → ahead_to c t z s j ≡ []) → 0 < x.len → {p : ℕ} → p ≡ place_on k.places s.place (j + 1) →
@@ -182,10 +186,10 @@ module _ {c : List ℕ} {t z : ℕ} {s : Stretch} {k : Configuration} {j q : ℕ
         some = l;
         fewer = omega arith;
         ready = λ r. record { shape = λ b. r.shape (omega arith); live = rw (rest_places r) (live_from c s j h r).1 };
-        run = λ r none. has_part r ∙ sym (first r none);
+        run = λ r none. has_part r ∙ sym (first _ r none);
         starts = λ r none.
             let at : q ≡ (s.place + j) % place_count c = e ∙ on c s j h o r j in
-            rw at at (y.before (rw at (live_from c s j h r).0) l) ∙ sym (first r none);
+            rw at at (y.before (rw at (live_from c s j h r).0) l) ∙ sym (first _ r none);
         rest = λ r. ahead_split c t z s (j + 1) (omega arith) ∙ rw (ahead_turn r, n r, rest_places r);
       }
     where
@@ -201,8 +205,8 @@ module _ {c : List ℕ} {t z : ℕ} {s : Stretch} {k : Configuration} {j q : ℕ
           let m = length_part c x.start x.len y.inside in
           omega arith
 
-      first : {A : Type 0} {has : ℕ → A} → Ready c s → (none : A) → at_first c (is_wanted t s.after z) has (places_of c s) none ≡ has ((s.place + j) % place_count c)
-      first {A} {has} r none =
+      first : {A : Type 0} (has : ℕ → A) → Ready c s → (none : A) → at_first c (is_wanted t s.after z) has (places_of c s) none ≡ has ((s.place + j) % place_count c)
+      first has r none =
           let f = is_wanted t s.after z in
           let before = around (place_count c) s.place j in
           ap (λ is. at_first c f has is none) (split c s j h) ∙ first_append c f has before (places_from c s j) none
@@ -266,8 +270,7 @@ next_old {c} {w} {r} n s =
 -- nothing is ahead of a walk: it has no next run
 pub no_next_run : (c : List ℕ) (w : Walk) → ahead c w ≡ [] → (next_run c w ≡ []) × (next_start c w ≡ 0)
 no_next_run c w e =
-    let both = append_empty (ahead_of c w.term w.to w.new) (ahead_of c w.term w.to w.old) e in
-    (
+    let both = append_empty (ahead_of c w.term w.to w.new) (ahead_of c w.term w.to w.old) e in (
       stretch_none c w.term w.to w.new _ _ both.0 ∙ stretch_none c w.term w.to w.old _ _ both.1,
       stretch_none c w.term w.to w.new _ _ both.0 ∙ stretch_none c w.term w.to w.old _ _ both.1,
     )

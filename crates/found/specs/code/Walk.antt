@@ -1,6 +1,6 @@
 -- The blocks that a lookup reads, one run of wanted positions after another.
-use Rattle.std.specs.Prelude.{ℕ, ◌+◌, ◌≤◌, ◌<◌, ◌≡◌, Bool, true, cond, List, [], ◌∷◌, ◌++◌, map, length, take, drop, eqb}
-use Rattle.pair.specs.Rank.{word_limit, position}
+use Rattle.std.specs.Prelude.{ℕ, ◌+◌, ◌≤◌, ◌<◌, ◌≡◌, Bool, true, List, [], ◌∷◌, ◌++◌, map, length, take, drop}
+use Rattle.pair.specs.Rank.{position}
 use Rattle.pair.specs.Rising.{Each, keep}
 use Rattle.block.specs.Block.{pairs, words_before, formed}
 use Rattle.wanted.specs.code.Wanted.{is_wanted}
