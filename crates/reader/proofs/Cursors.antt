@@ -2,6 +2,7 @@
 use Prim.Native.Nat.{ℕ, zero, suc, ◌+◌, ◌-◌, ◌≤◌, ◌<◌, zero-le}
 use native.Mathlib.Numerals.{add-one}
 use native.Mathlib.Omega.{arith}
+use Rattle.std.specs.Prelude.{Some, None}
 use mathlib.Core.Path.{◌≡◌, refl, sym, ap, ◌∙◌}
 use mathlib.Core.List.{List, [], ◌∷◌, ◌++◌, map}
 use lib.ListN.{length, take, drop, get_or}
@@ -12,7 +13,6 @@ use Rattle.found.specs.declared.walk.WalkCount.{WalkCount}
 use Rattle.found.specs.declared.walk.WalkRun.{WalkRun}
 use Rattle.found.specs.Found.{question_number}
 use Rattle.found.specs.code.Walk.{ahead, WalkStarted, WalkCounted, Next}
-use Rattle.reader.specs.declared.Yield.TheVariants.{Posting, End}
 use Rattle.reader.specs.declared.cursor.Cursor.{Cursor}
 use Rattle.reader.specs.declared.cursor.Step.{Step}
 use Rattle.reader.specs.Reader.{all_yielded, posting, ended, yielded, yield_of}
@@ -55,7 +55,7 @@ yields_end (y ∷ ys) (suc n) e = yields_end ys n e
 -- a posting is left
 pub step_posting :
     {c : List ℕ} {at left : ℕ} {w : Walk} → 0 < left → at < length c →
-    CursorStep c (record { at = at; left = left; walk = w }) (record { yielded = Posting (get_or c at 0); cursor = record { at = at + 1; left = left - 1; walk = w } })
+    CursorStep c (record { at = at; left = left; walk = w }) (record { yielded = Some (get_or c at 0); cursor = record { at = at + 1; left = left - 1; walk = w } })
 unfolding yielded
 step_posting {c} {at} {left} {w} l h =
     record {
@@ -98,14 +98,14 @@ over x t a z n s = record { inside = x.inside; ready = x.ready s.ready; rest = s
 
 pub step_over :
     {c : List ℕ} {w : Walk} {r : WalkRun} (at : ℕ) → Next c w r → 0 < r.len →
-    CursorStep c (record { at = at; left = 0; walk = w }) (record { yielded = Posting (get_or c r.start 0); cursor = record { at = r.start + 1; left = r.len - 1; walk = r.rest } })
+    CursorStep c (record { at = at; left = 0; walk = w }) (record { yielded = Some (get_or c r.start 0); cursor = record { at = r.start + 1; left = r.len - 1; walk = r.rest } })
 step_over {c} {w} {r} at x l =
     let s : CursorStep c (record { at = r.start; left = r.len; walk = r.rest }) _ = step_posting {w = r.rest} l (omega (arith, x.inside)) in
     record { word = s.word; yields = λ t a z n q. s.yields t a z n (over x t a z n q); after = λ t a z n q. s.after t a z n (over x t a z n q) }
 
 pub step_end :
     {c : List ℕ} {w : Walk} {r : WalkRun} (at : ℕ) → Next c w r → r.len ≡ 0 →
-    CursorStep c (record { at = at; left = 0; walk = w }) (record { yielded = End; cursor = record { at = r.start; left = 0; walk = r.rest } })
+    CursorStep c (record { at = at; left = 0; walk = w }) (record { yielded = None; cursor = record { at = r.start; left = 0; walk = r.rest } })
 unfolding yielded
 step_end {c} {w} {r} at x l =
     record {
@@ -150,7 +150,7 @@ pub behind_end : {c : List ℕ} {v : Cursor} {n : ℕ} {k : Cursor} {i : ℕ} {r
 behind_end {c} {v} {n} {k} {i} b l s =
     record { yields = λ t a z m q. let e : m + n ≡ m + i = omega (arith, b.within) in rw e (s.yields t a z (m + i) (b.after t a z m q)) }
 
-pub behind_stop : {c : List ℕ} {v : Cursor} {n : ℕ} {k : Cursor} {i : ℕ} {r : Step} → Behind c v n k i → CursorStep c k r → r.yielded ≡ End → Later c v n End
+pub behind_stop : {c : List ℕ} {v : Cursor} {n : ℕ} {k : Cursor} {i : ℕ} {r : Step} → Behind c v n k i → CursorStep c k r → r.yielded ≡ None → Later c v n None
 unfolding yielded
 behind_stop {c} {v} {n} {k} {i} {r} b s e =
     record {

@@ -1,15 +1,16 @@
 -- A reading: what a reader yields goes to the answer words, one posting after another.
 use Prim.Native.Nat.{ℕ, zero, suc, ◌+◌, ◌≤◌, ◌<◌, zero-le}
 use native.Mathlib.Omega.{arith}
+use Rattle.std.specs.Prelude.{Some, None}
 use mathlib.Core.Path.{◌≡◌, refl, sym, ap, ◌∙◌}
 use mathlib.Core.Bool.{false}
 use mathlib.Core.List.{List, [], ◌∷◌, map}
 use lib.ListN.{length, take, get_or, set, length-take}
+use Rattle.std.proofs.lemmas.List.{set-get_or}
 use lib.Seq.{sets, take_all, take-nil, length-sets}
 use lib.Dec.{eqb}
 use Rattle.pair.proofs.Lists.{sets_next}
 use Rattle.found.specs.Found.{question_number}
-use Rattle.reader.specs.declared.Yield.TheVariants.{Posting, End}
 use Rattle.reader.specs.declared.cursor.Cursor.{Cursor}
 use Rattle.reader.specs.declared.cursor.Step.{Step}
 use Rattle.reader.specs.Reader.{all_yielded, posting, ended, yielded, read, yield_of, ReadOff}
@@ -47,8 +48,8 @@ pub taking_length : {c l now : List ℕ} {t a z i : ℕ} {k : Cursor} → Taking
 taking_length {c} {l} {now} {t} {a} {z} {i} g = ap length g.same ∙ length-sets l 0 (take i (all_yielded c t a z))
 
 pub taking_turn :
-    {c l now : List ℕ} {t a z i p : ℕ} {k : Cursor} {r : Step} → Taking c t a z l k now i → i < length now → CursorStep c k r →
-    r.yielded ≡ Posting p → Taking c t a z l r.cursor (set now i p) (i + 1)
+    {c l now : List ℕ} {t a z i p : ℕ} {k : Cursor} {r : Step} → Taking c t a z l k now i → i < length l → CursorStep c k r →
+    r.yielded ≡ Some p → Taking c t a z l r.cursor (set now i p) (i + 1)
 unfolding yielded
 taking_turn {c} {l} {now} {t} {a} {z} {i} {p} g h s e =
     let all = all_yielded c t a z in
@@ -60,19 +61,19 @@ taking_turn {c} {l} {now} {t} {a} {z} {i} {p} g h s e =
       same = let e : i ≡ 0 + i = omega arith in rw (g.same, there.1) (ap (λ j. set (sets l 0 (take i all)) j (get_or all i 0)) e ∙ sets_next all l 0 i there.0);
     }
 
-pub taking_full : {c l now : List ℕ} {t a z i m : ℕ} {k : Cursor} → Taking c t a z l k now i → length now ≤ i → m ≡ question_number c t a z → ReadOff m i now (read c t a z l)
+pub taking_full : {c l now : List ℕ} {t a z i m : ℕ} {k : Cursor} → Taking c t a z l k now i → length l ≤ i → m ≡ question_number c t a z → ReadOff m (length now) now (read c t a z l)
 unfolding read
 taking_full {c} {l} {now} {t} {a} {z} {i} g h m =
-    let e : i ≡ length l = omega (arith, g.room, taking_length g) in
+    let e : i ≡ length l = omega (arith, g.room) in
     record {
       of_number = m;
-      of_count = rw length-take (omega (arith, g.some));
+      of_count = rw length-take (omega (arith, g.some, taking_length g));
       of_answer = rw (sym e) g.same;
     }
 
 pub taking_end :
-    {c l now : List ℕ} {t a z i m : ℕ} {k : Cursor} {r : Step} → Taking c t a z l k now i → CursorStep c k r → r.yielded ≡ End → m ≡ question_number c t a z →
-    ReadOff m i now (read c t a z l)
+    {c l now : List ℕ} {t a z i m : ℕ} {k : Cursor} {r : Step} → Taking c t a z l k now i → CursorStep c k r → r.yielded ≡ None → m ≡ question_number c t a z →
+    ReadOff m i (set now i (get_or now i 0)) (read c t a z l)
 unfolding read yielded
 taking_end {c} {l} {now} {t} {a} {z} {i} g s e m =
     let all = all_yielded c t a z in
@@ -80,5 +81,5 @@ taking_end {c} {l} {now} {t} {a} {z} {i} g s e m =
     record {
       of_number = m;
       of_count = rw length-take (omega (arith, g.some, g.room));
-      of_answer = g.same ∙ rw (take_all i all past, take_all (length l) all (omega (arith, g.room)));
+      of_answer = set-get_or now i 0 ∙ g.same ∙ rw (take_all i all past, take_all (length l) all (omega (arith, g.room)));
     }

@@ -1,9 +1,7 @@
 -- What the posting reader yields, and a reading: the first of it in answer words.
-use Rattle.std.specs.Prelude.{ℕ, ◌≡◌, cond, List, [], map, length, take, get_or, eqb}
+use Rattle.std.specs.Prelude.{ℕ, Option, Some, None, ◌≡◌, cond, List, [], map, length, take, get_or, eqb}
 use Rattle.std.proofs.lemmas.List.Edits.{sets}
 use Rattle.found.specs.Found.{found, question_number}
-use Rattle.reader.specs.declared.Yield.{Yield}
-use Rattle.reader.specs.declared.Yield.TheVariants.{Posting, End}
 
 -- all that the posting reader yields: what is found, and nothing where the question is refused
 unfoldable pub all_yielded : List ℕ → ℕ → ℕ → ℕ → List ℕ
@@ -30,9 +28,9 @@ read c t a z answer =
     record { number = question_number c t a z; count = length first; answer = sets answer 0 first }
 
 -- the yield that each case of the answer stands for
-abbrev pub yield_of : Yield → Yielded
-yield_of (Posting p) = posting p
-yield_of End = ended
+abbrev pub yield_of : Option ℕ → Yielded
+yield_of (Some p) = posting p
+yield_of None = ended
 
 -- the number, the count and the answer words left are those of a reading
 pub record ReadOff (number count : ℕ) (answer : List ℕ) (d : Read) : Type 0 where

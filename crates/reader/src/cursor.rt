@@ -3,7 +3,6 @@ ghost use Rattle.std.specs.Prelude.{◌≡◌, ℕ};
 ghost use Rattle.found.specs.Found.{question_number};
 ghost use Rattle.reader.specs.code.Cursor.{CursorAfter, CursorStep, CursorCounted, Later};
 
-use crate::Yield;
 use found::walk::{Walk, next_run, start_counted, start_walk};
 
 // A place in a card: the postings that are left of a run, and the walk behind it. Only this crate makes one.
@@ -32,7 +31,7 @@ pub struct Counted {
 // What is yielded at a cursor, and the cursor behind it.
 #[derive(Clone, Copy)]
 pub struct Step {
-    pub yielded: Yield,
+    pub yielded: Option<u32>,
     pub cursor: Cursor,
 }
 
@@ -76,25 +75,22 @@ fn step_over(card: &[u32], walk: Walk) -> Step
     ensures { (at : ℕ) → CursorStep card.now (record { at = at; left = 0; walk = walk }) result }
 {
     let run = next_run(card, walk);
-    let start = run.start;
-    let len = run.len;
-    let rest = run.rest;
-    if 0 < len {
+    if 0 < run.len {
         return Step {
-            yielded: Yield::Posting(card[start]),
+            yielded: Some(card[run.start]),
             cursor: Cursor {
-                at: start + 1,
-                left: len - 1,
-                walk: rest,
+                at: run.start + 1,
+                left: run.len - 1,
+                walk: run.rest,
             },
         };
     }
     Step {
-        yielded: Yield::End,
+        yielded: None,
         cursor: Cursor {
-            at: start,
+            at: run.start,
             left: 0,
-            walk: rest,
+            walk: run.rest,
         },
     }
 }
@@ -103,44 +99,34 @@ fn step_over(card: &[u32], walk: Walk) -> Step
 pub fn step_at(card: &[u32], cursor: Cursor) -> Step
     ensures { CursorStep card.now cursor result }
 {
-    let at = cursor.at;
-    let left = cursor.left;
-    let walk = cursor.walk;
-    if left == 0 {
-        return step_over(card, walk);
+    if cursor.left == 0 {
+        return step_over(card, cursor.walk);
     }
-    if card.len() <= at {
+    if card.len() <= cursor.at {
         return Step {
-            yielded: Yield::End,
-            cursor: Cursor { at, left, walk },
+            yielded: None,
+            cursor,
         };
     }
     Step {
-        yielded: Yield::Posting(card[at]),
+        yielded: Some(card[cursor.at]),
         cursor: Cursor {
-            at: at + 1,
-            left: left - 1,
-            walk,
+            at: cursor.at + 1,
+            left: cursor.left - 1,
+            ..cursor
         },
     }
 }
 
 // What is yielded after n others.
-pub(crate) fn yield_at(card: &[u32], cursor: Cursor, n: usize) -> Yield
+pub(crate) fn yield_at(card: &[u32], cursor: Cursor, n: usize) -> Option<u32>
     ensures { Later card.now cursor n result }
 {
     let mut here = cursor;
-    let mut i: usize = 0;
-    while i < n {
+    for i in 0..n {
         let step = step_at(card, here);
-        let yielded = step.yielded;
-        if let Yield::End = yielded {
-            return Yield::End;
-        }
-        let behind = step.cursor;
-        here = behind;
-        i += 1;
+        step.yielded?;
+        here = step.cursor;
     }
-    let last = step_at(card, here);
-    last.yielded
+    step_at(card, here).yielded
 }

@@ -11,13 +11,6 @@ use crate::cursor::{Cursor, open_at, step_at, yield_at};
 
 pub mod cursor; // a place in the card that moves on by one posting at a time
 
-// What a reader yields.
-#[derive(Clone, Copy)]
-pub enum Yield {
-    Posting(u32),
-    End,
-}
-
 // It carries the number of its question, 0 where that is not refused, and yields the question's postings one after another, then the end for
 // ever. Only this crate makes one.
 #[derive(Drop)]
@@ -40,7 +33,7 @@ pub fn open<'a>(card: &'a [u32], term: u32, from: u32, to: u32) -> PostingReader
 }
 
 // The next posting, or the end; nothing is judged.
-pub fn next<'s, 'a>(r: &'s mut PostingReader<'a>) -> Yield
+pub fn next<'s, 'a>(r: &'s mut PostingReader<'a>) -> Option<u32>
     ensures { CursorStep r.old.card.now r.old.cursor (record { yielded = result; cursor = r.new.cursor }) × (r.new.number ≡ r.old.number) × (r.new.card ≡ r.old.card) }
 {
     let s = step_at(r.card, r.cursor);
@@ -49,7 +42,7 @@ pub fn next<'s, 'a>(r: &'s mut PostingReader<'a>) -> Yield
 }
 
 // What a reader of the question yields after n others. Its contract speaks of no reader, so whoever calls it needs no walk by hand.
-pub fn posting(card: &[u32], term: u32, from: u32, to: u32, n: usize) -> Yield
+pub fn posting(card: &[u32], term: u32, from: u32, to: u32, n: usize) -> Option<u32>
     ensures { yield_of result ≡ yielded card.now term from to n }
 {
     let r = open(card, term, from, to);
@@ -70,21 +63,16 @@ pub fn read(card: &[u32], term: u32, from: u32, to: u32, answer: &mut [u32]) -> 
     let start = open_at(card, term, from, to);
     let number = start.number;
     let mut here = start.cursor;
-    let mut count: usize = 0;
-    while count < answer.len() {
+    for (count, word) in answer.iter_mut().enumerate() {
         let step = step_at(card, here);
-        let yielded = step.yielded;
-        match yielded {
-            Yield::Posting(position) => {
-                answer[count] = position;
-            }
-            Yield::End => {
-                return Reading { number, count };
-            }
+        match step.yielded {
+            Some(position) => *word = position,
+            None => return Reading { number, count },
         }
-        let behind = step.cursor;
-        here = behind;
-        count += 1;
+        here = step.cursor;
     }
-    Reading { number, count }
+    Reading {
+        number,
+        count: answer.len(),
+    }
 }

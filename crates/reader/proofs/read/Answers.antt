@@ -2,13 +2,13 @@
 use Rattle.reader.proofs.Readings.{taking_turn, taking_full, taking_end}
 use Rattle.reader.proofs.read.Goals as goal
 
-pub returns-in-End : goal.returns-in-End
-returns-in-End c =
-    taking_end c.loop-count.invariant c.step_at-step.ensures c.in-End.is c.open_at-start.ensures.0
+pub returns-in-None : goal.returns-in-None
+returns-in-None c =
+    taking_end c.loop-count.invariant c.step_at-step.ensures c.in-None.is c.open_at-start.ensures.0
 
 pub loop-count-preserved : goal.loop-count-preserved
 loop-count-preserved c =
-    taking_turn c.loop-count.invariant c.loop-count-test.true c.step_at-step.ensures c.in-Posting.is
+    taking_turn c.loop-count.invariant c.loop-count-test.true c.step_at-step.ensures c.in-Some.is
 
 pub returns : goal.returns
 returns c = taking_full c.loop-count.invariant c.loop-count-test.false c.open_at-start.ensures.0

@@ -1,9 +1,8 @@
 -- The posting reader's cursor, and what is yielded at it.
-use Rattle.std.specs.Prelude.{ℕ, ◌+◌, ◌≤◌, ◌<◌, ◌≡◌, List, ◌++◌, length, take, drop, get_or}
+use Rattle.std.specs.Prelude.{ℕ, Option, Some, None, ◌+◌, ◌≤◌, ◌<◌, ◌≡◌, List, ◌++◌, length, take, drop, get_or}
 use Rattle.pair.specs.Rank.{word_limit}
 use Rattle.found.specs.Found.{question_number}
 use Rattle.found.specs.code.Walk.{ahead, ReadyWalk}
-use Rattle.reader.specs.declared.Yield.{Yield}
 use Rattle.reader.specs.declared.cursor.Cursor.{Cursor}
 use Rattle.reader.specs.declared.cursor.Counted.{Counted}
 use Rattle.reader.specs.declared.cursor.Step.{Step}
@@ -41,5 +40,5 @@ pub record CursorStep (c : List ℕ) (k : Cursor) (r : Step) : Type 0 where
   pub after : (t a z n : ℕ) → CursorAfter c t a z n k → CursorAfter c t a z (n + 1) r.cursor
 
 -- what is yielded after n others
-pub record Later (c : List ℕ) (k : Cursor) (n : ℕ) (y : Yield) : Type 0 where
+pub record Later (c : List ℕ) (k : Cursor) (n : ℕ) (y : Option ℕ) : Type 0 where
   pub yields : (t a z m : ℕ) → CursorAfter c t a z m k → yield_of y ≡ yielded c t a z (m + n)

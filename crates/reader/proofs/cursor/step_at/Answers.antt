@@ -3,8 +3,8 @@ use native.Mathlib.Omega.{arith}
 use Rattle.reader.proofs.Cursors.{step_posting}
 use Rattle.reader.proofs.cursor.step_at.Goals as goal
 
-pub returns-then-left-eq0 : goal.returns-then-left-eq0
-returns-then-left-eq0 c = rw c.if-left-eq0.true (c.step_over.ensures _)
+pub returns-then-cursor-eq0 : goal.returns-then-cursor-eq0
+returns-then-cursor-eq0 c = rw c.if-cursor-eq0.true (c.step_over.ensures _)
 
 pub returns : goal.returns
-returns c = step_posting (omega (arith, c.if-left-eq0.false)) c.if-card-at.false
+returns c = step_posting (omega (arith, c.if-cursor-eq0.false)) c.if-card-cursor.false

@@ -2,5 +2,5 @@
 use Rattle.reader.proofs.Cursors.{behind_stop}
 use Rattle.reader.proofs.cursor.yield_at.Goals as goal
 
-pub returns-in-End : goal.returns-in-End
-returns-in-End c = behind_stop c.loop-i.invariant c.step_at-step.ensures c.in-End.is
+pub returns-in_err-step : goal.returns-in_err
+returns-in_err-step c = behind_stop c.loop-i.invariant c.step_at-step.ensures c.in_err-step.was
