@@ -1,7 +1,8 @@
 // The posting reader's work on a plain slice and a cursor by value: a place in the card that moves on by one posting at a time.
-ghost use Rattle.std.specs.Prelude.{◌≡◌, ℕ};
+ghost use Rattle.std.specs.Prelude.{◌≡◌, [], IfSome, IsNone};
 ghost use Rattle.found.specs.Found.{question_number};
-ghost use Rattle.reader.specs.code.Cursor.{CursorAfter, CursorStep, CursorCounted, Later};
+ghost use Rattle.reader.specs.Reader.{all_yielded};
+ghost use Rattle.reader.specs.code.Cursor.{left_at, StandsIn, CursorAt, CursorCounted, RunInHand, CursorStep};
 
 use found::walk::{Walk, next_run, start_counted, start_walk};
 
@@ -28,16 +29,9 @@ pub struct Counted {
     pub cursor: Cursor,
 }
 
-// What is yielded at a cursor, and the cursor behind it.
-#[derive(Clone, Copy)]
-pub struct Step {
-    pub yielded: Option<u32>,
-    pub cursor: Cursor,
-}
-
 // Judges the card and the question. Refused, nothing is before the cursor.
 pub(crate) fn open_at(card: &[u32], term: u32, from: u32, to: u32) -> Opening
-    ensures { (result.number ≡ question_number card.now term from to) × CursorAfter card.now term from to 0 result.cursor }
+    ensures { (result.number ≡ question_number card.now term from to) × CursorAt card.now result.cursor (all_yielded card.now term from to) }
 {
     let start = start_walk(card, term, from, to);
     let number = start.number;
@@ -70,63 +64,34 @@ pub fn open_counted(card: &[u32], term: u32, from: u32, to: u32) -> Counted
     }
 }
 
-// The step where no posting of a run is left: on to the next run.
-fn step_over(card: &[u32], walk: Walk) -> Step
-    ensures { (at : ℕ) → CursorStep card.now (record { at = at; left = 0; walk = walk }) result }
+// The cursor with a run in hand: where no posting of a run is left, the next run of its walk.
+fn with_run(card: &[u32], cursor: Cursor) -> Option<Cursor>
+    ensures some { IfSome result (RunInHand card.now cursor) }
+    ensures none { IsNone result → StandsIn card.now cursor → left_at card.now cursor ≡ [] }
 {
-    let run = next_run(card, walk);
-    if 0 < run.len {
-        return Step {
-            yielded: Some(card[run.start]),
-            cursor: Cursor {
-                at: run.start + 1,
-                left: run.len - 1,
-                walk: run.rest,
-            },
-        };
+    if 0 < cursor.left {
+        return Some(cursor);
     }
-    Step {
-        yielded: None,
-        cursor: Cursor {
-            at: run.start,
-            left: 0,
-            walk: run.rest,
-        },
+    let run = next_run(card, cursor.walk);
+    if run.len == 0 {
+        return None;
     }
+    Some(Cursor {
+        at: run.start,
+        left: run.len,
+        walk: run.rest,
+    })
 }
 
-// One posting, or the end; nothing is judged.
-pub fn step_at(card: &[u32], cursor: Cursor) -> Step
-    ensures { CursorStep card.now cursor result }
+// One posting, or the end, and on to the place behind it; nothing is judged.
+pub fn step_at(card: &[u32], cursor: &mut Cursor) -> Option<u32>
+    ensures { CursorStep card.now cursor.old result cursor.new }
 {
-    if cursor.left == 0 {
-        return step_over(card, cursor.walk);
-    }
-    if card.len() <= cursor.at {
-        return Step {
-            yielded: None,
-            cursor,
-        };
-    }
-    Step {
-        yielded: Some(card[cursor.at]),
-        cursor: Cursor {
-            at: cursor.at + 1,
-            left: cursor.left - 1,
-            ..cursor
-        },
-    }
-}
-
-// What is yielded after n others.
-pub(crate) fn yield_at(card: &[u32], cursor: Cursor, n: usize) -> Option<u32>
-    ensures { Later card.now cursor n result }
-{
-    let mut here = cursor;
-    for i in 0..n {
-        let step = step_at(card, here);
-        step.yielded?;
-        here = step.cursor;
-    }
-    step_at(card, here).yielded
+    *cursor = with_run(card, *cursor)?;
+    let Some(&position) = card.get(cursor.at) else {
+        return None;
+    };
+    cursor.at += 1;
+    cursor.left -= 1;
+    Some(position)
 }

@@ -4,10 +4,10 @@
 
 ghost use Rattle.std.specs.Prelude.{◌≡◌};
 ghost use Rattle.found.specs.Found.{question_number};
-ghost use Rattle.reader.specs.code.Cursor.{CursorAfter, CursorStep};
-ghost use Rattle.reader.specs.Reader.{yielded, yield_of, read, ReadOff};
+ghost use Rattle.reader.specs.code.Cursor.{left_at, StandsIn};
+ghost use Rattle.reader.specs.Reader.{all_yielded, yielded, yield_of, read, ReadOff};
 
-use crate::cursor::{Cursor, open_at, step_at, yield_at};
+use crate::cursor::{Cursor, open_at, step_at};
 
 pub mod cursor; // a place in the card that moves on by one posting at a time
 
@@ -18,11 +18,14 @@ pub struct PostingReader<'a> {
     pub number: u32,
     pub(crate) card: &'a [u32],
     pub(crate) cursor: Cursor,
+    ghost stands: { StandsIn card.now cursor },
 }
 
 // Judges the card and the question. Refused, the reader carries the number and yields nothing.
 pub fn open<'a>(card: &'a [u32], term: u32, from: u32, to: u32) -> PostingReader<'a>
-    ensures { (result.number ≡ question_number card.now term from to) × (result.card ≡ card.entry) × CursorAfter card.now term from to 0 result.cursor }
+    ensures number { result.number ≡ question_number card.now term from to }
+    ensures card { result.card ≡ card.entry }
+    ensures left { left_at result.card.now result.cursor ≡ all_yielded card.now term from to }
 {
     let opening = open_at(card, term, from, to);
     PostingReader {
@@ -32,21 +35,26 @@ pub fn open<'a>(card: &'a [u32], term: u32, from: u32, to: u32) -> PostingReader
     }
 }
 
-// The next posting, or the end; nothing is judged.
-pub fn next<'s, 'a>(r: &'s mut PostingReader<'a>) -> Option<u32>
-    ensures { CursorStep r.old.card.now r.old.cursor (record { yielded = result; cursor = r.new.cursor }) × (r.new.number ≡ r.old.number) × (r.new.card ≡ r.old.card) }
-{
-    let s = step_at(r.card, r.cursor);
-    r.cursor = s.cursor;
-    s.yielded
+impl<'a> Iterator for PostingReader<'a> {
+    ghost use Rattle.std.specs.Iterator.{YieldsFirst, item_count};
+
+    type Item = u32;
+
+    ghost next_gives = { λ r y then. YieldsFirst (λ s. left_at s.card.now s.cursor) r y then × (then.number ≡ r.number) × (then.card ≡ r.card) };
+
+    ghost remaining = { item_count (λ s. left_at s.card.now s.cursor) };
+
+    // The next posting, or the end; nothing is judged.
+    fn next(&mut self) -> Option<u32> {
+        step_at(self.card, &mut self.cursor)
+    }
 }
 
 // What a reader of the question yields after n others. Its contract speaks of no reader, so whoever calls it needs no walk by hand.
 pub fn posting(card: &[u32], term: u32, from: u32, to: u32, n: usize) -> Option<u32>
     ensures { yield_of result ≡ yielded card.now term from to n }
 {
-    let r = open(card, term, from, to);
-    yield_at(r.card, r.cursor, n)
+    open(card, term, from, to).nth(n)
 }
 
 // The number of a refusal, and how many postings were read.
@@ -60,16 +68,13 @@ pub struct Reading {
 pub fn read(card: &[u32], term: u32, from: u32, to: u32, answer: &mut [u32]) -> Reading
     ensures { ReadOff result.number result.count answer.new (read card.now term from to answer.old) }
 {
-    let start = open_at(card, term, from, to);
-    let number = start.number;
-    let mut here = start.cursor;
+    let mut reader = open(card, term, from, to);
+    let number = reader.number;
     for (count, word) in answer.iter_mut().enumerate() {
-        let step = step_at(card, here);
-        match step.yielded {
+        match reader.next() {
             Some(position) => *word = position,
             None => return Reading { number, count },
         }
-        here = step.cursor;
     }
     Reading {
         number,

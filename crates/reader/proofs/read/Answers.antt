@@ -1,14 +1,16 @@
--- `reader::read` meets its contract. The invariant: count postings are in the answer words, and the cursor in hand is behind them.
-use Rattle.reader.proofs.Readings.{taking_turn, taking_full, taking_end}
+-- `reader::read` meets its contract.
+use native.Mathlib.Omega.{arith}
+use Rattle.reader.proofs.Readings.{taking_start, taking_turn, taking_full, taking_end}
 use Rattle.reader.proofs.read.Goals as goal
 
+pub loop-count-init : goal.loop-count-init
+loop-count-init c = taking_start _ c.open-reader.ensures.left
+
 pub returns-in-None : goal.returns-in-None
-returns-in-None c =
-    taking_end c.loop-count.invariant c.step_at-step.ensures c.in-None.is c.open_at-start.ensures.0
+returns-in-None c = taking_end _ _ _ _ c.loop-count.invariant c.in-None.ensures.steps.0.0 (omega (arith, c.loop-count.auto.count-end)) c.open-reader.ensures.number
 
 pub loop-count-preserved : goal.loop-count-preserved
-loop-count-preserved c =
-    taking_turn c.loop-count.invariant c.loop-count-test.true c.step_at-step.ensures c.in-Some.is
+loop-count-preserved c = taking_turn c.loop-count.invariant c.in-Some.ensures.steps.0
 
 pub returns : goal.returns
-returns c = taking_full c.loop-count.invariant c.loop-count-test.false c.open_at-start.ensures.0
+returns c = taking_full _ _ _ _ c.loop-count.invariant (omega (arith, c.loop-count-test.false, c.loop-count.auto.count-end)) c.open-reader.ensures.number

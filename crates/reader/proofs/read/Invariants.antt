@@ -1,6 +1,8 @@
--- `reader::read` meets its contract. The invariant: count postings are in the answer words, and the cursor in hand is behind them.
+-- `reader::read` meets its contract. The invariant: count postings are in the answer words, and the others are left in the reader.
+use Rattle.reader.specs.Reader.{all_yielded}
+use Rattle.reader.specs.code.Cursor.{left_at}
 use Rattle.reader.proofs.Readings.{Taking}
 use Rattle.reader.proofs.read.Given as goal
 
 abbrev pub invariant-loop-count : goal.invariant-loop-count
-invariant-loop-count l = Taking l.card l.term l.from l.to l.initial.answer l.here l.answer l.count
+invariant-loop-count l = Taking (all_yielded l.card l.term l.from l.to) (left_at l.reader.card.now l.reader.cursor) l.initial.answer l.answer l.count

@@ -1,26 +1,43 @@
 -- The posting reader's cursor, and what is yielded at it.
-use Rattle.std.specs.Prelude.{ℕ, Option, Some, None, ◌+◌, ◌≤◌, ◌<◌, ◌≡◌, List, ◌++◌, length, take, drop, get_or}
+use Rattle.std.specs.Prelude.{ℕ, Option, ◌+◌, ◌≤◌, ◌<◌, ◌≡◌, List, ◌++◌, length, take, drop, get_or}
+use Rattle.std.specs.Iterator.{YieldsFirst}
 use Rattle.pair.specs.Rank.{word_limit}
 use Rattle.found.specs.Found.{question_number}
 use Rattle.found.specs.code.Walk.{ahead, ReadyWalk}
 use Rattle.reader.specs.declared.cursor.Cursor.{Cursor}
 use Rattle.reader.specs.declared.cursor.Counted.{Counted}
-use Rattle.reader.specs.declared.cursor.Step.{Step}
-use Rattle.reader.specs.Reader.{all_yielded, Yielded, posting, ended, yielded, yield_of}
+use Rattle.reader.specs.Reader.{all_yielded, Yielded, posting, ended, yield_of}
 
--- the cursor of a reader that was opened with the question and has yielded n times: the postings left of its run and those ahead of its
--- walk are the others
-pub record CursorAfter (c : List ℕ) (t a z n : ℕ) (k : Cursor) : Type 0 where
+-- what is left at a cursor: the postings of its run, and those ahead of its walk
+abbrev pub left_at : List ℕ → Cursor → List ℕ
+left_at c k = take k.left (drop k.at c) ++ ahead c k.walk
+
+-- the cursor's run lies in the card, and its walk goes over live blocks
+pub record Standing (c : List ℕ) (k : Cursor) : Type 0 where
   pub inside : k.at + k.left ≤ length c
   pub ready : ReadyWalk c k.walk
-  pub rest : take k.left (drop k.at c) ++ ahead c k.walk ≡ drop n (all_yielded c t a z)
+
+-- the cursor stands in the card
+abbrev pub StandsIn : List ℕ → Cursor → Type 0
+StandsIn c k = ∥ Standing c k ∥₁
+
+-- the cursor stands in the card, and these are left there
+pub record CursorAt (c : List ℕ) (k : Cursor) (ps : List ℕ) : Type 0 where
+  pub stands : StandsIn c k
+  pub rest : left_at c k ≡ ps
 
 -- the number of a question, the count of all that a reader of it yields, and the cursor before that
 pub record CursorCounted (c : List ℕ) (t a z : ℕ) (r : Counted) : Type 0 where
   pub number : r.number ≡ question_number c t a z
   pub counted : r.count ≡ length (all_yielded c t a z)
   pub few : r.count < word_limit
-  pub after : CursorAfter c t a z 0 r.cursor
+  pub at : CursorAt c r.cursor (all_yielded c t a z)
+
+-- a cursor with a run in hand, where the same is left
+pub record RunInHand (c : List ℕ) (k r : Cursor) : Type 0 where
+  pub some : 0 < r.left
+  pub stands : StandsIn c k → StandsIn c r
+  pub same : StandsIn c k → left_at c k ≡ left_at c r
 
 -- p is a word of the card
 pub record WordOf (c : List ℕ) (p : ℕ) : Type 0 where
@@ -33,12 +50,9 @@ abbrev pub OfCard : List ℕ → Yielded → Type 0
 OfCard c (posting p) = WordOf c p
 OfCard c ended = Unit {0}
 
--- a step at a reader's cursor yields what comes next, and leaves the cursor behind it; at any cursor it yields the end or a word of the card
-pub record CursorStep (c : List ℕ) (k : Cursor) (r : Step) : Type 0 where
-  pub word : OfCard c (yield_of r.yielded)
-  pub yields : (t a z n : ℕ) → CursorAfter c t a z n k → yield_of r.yielded ≡ yielded c t a z n
-  pub after : (t a z n : ℕ) → CursorAfter c t a z n k → CursorAfter c t a z (n + 1) r.cursor
-
--- what is yielded after n others
-pub record Later (c : List ℕ) (k : Cursor) (n : ℕ) (y : Option ℕ) : Type 0 where
-  pub yields : (t a z m : ℕ) → CursorAfter c t a z m k → yield_of y ≡ yielded c t a z (m + n)
+-- a step at a cursor that stands in the card yields the first of what is left there and leaves the cursor at the others, or yields the end where
+-- nothing is left; at any cursor it yields the end or a word of the card
+pub record CursorStep (c : List ℕ) (k : Cursor) (y : Option ℕ) (r : Cursor) : Type 0 where
+  pub word : OfCard c (yield_of y)
+  pub stands : StandsIn c k → StandsIn c r
+  pub first : StandsIn c k → YieldsFirst (left_at c) k y r

@@ -1,10 +1,11 @@
 -- `reader::cursor::step_at` meets its contract.
-use native.Mathlib.Omega.{arith}
-use Rattle.reader.proofs.Cursors.{step_posting}
+use Rattle.reader.proofs.Cursors.{step_posting, step_end, step_astray}
 use Rattle.reader.proofs.cursor.step_at.Goals as goal
 
-pub returns-then-cursor-eq0 : goal.returns-then-cursor-eq0
-returns-then-cursor-eq0 c = rw c.if-cursor-eq0.true (c.step_over.ensures _)
-
 pub returns : goal.returns
-returns c = step_posting (omega (arith, c.if-cursor-eq0.false)) c.if-card-cursor.false
+returns c =
+    let found = c.in-Some.ensures.lookup.3 in
+    rw (found.1 0) (step_posting c.in_ok-cursor.ensures.some found.0)
+
+pub returns-in_default : goal.returns-in_default
+returns-in_default c = step_astray c.in_ok-cursor.ensures.some c.in_default.ensures.lookup.3
