@@ -6,56 +6,53 @@ use Rattle.std.specs.Prelude.{Some, None}
 use Rattle.std.proofs.Props.{props}
 use Rattle.std.proofs.Math.Logic.{∥∥₁_map, ∥∥₁_elim}
 use mathlib.Core.Path.{◌≡◌, refl, sym, ap, ◌∙◌}
-use mathlib.Core.List.{List, [], ◌∷◌, ◌++◌, map}
+use mathlib.Core.List.{List, [], ◌∷◌, ◌++◌}
 use lib.ListN.{length, take, drop, get_or}
 use lib.Seq.{drop-cons}
+use borrow.Author.Tests.{ne_eqb}
+use Rattle.refusal.specs.declared.Refusal.{Refusal}
+use Rattle.refusal.specs.Refusal.{number}
+use Rattle.refusal.proofs.Numbers.{number_positive}
 use Rattle.found.specs.declared.walk.Walk.{Walk}
-use Rattle.found.specs.declared.walk.WalkStart.{WalkStart}
-use Rattle.found.specs.declared.walk.WalkCount.{WalkCount}
-use Rattle.found.specs.declared.walk.WalkRun.{WalkRun}
-use Rattle.found.specs.Found.{question_number}
-use Rattle.found.specs.code.Walk.{ahead, WalkStarted, WalkCounted, Next}
+use Rattle.found.specs.declared.walk.Run.{Run}
+use Rattle.found.specs.Found.{found, question_number}
+use Rattle.found.specs.code.Walk.{ahead, ReadyWalk, NextRun}
 use Rattle.reader.specs.declared.cursor.Cursor.{Cursor}
-use Rattle.reader.specs.Reader.{all_yielded, posting, ended, yielded, yield_of}
-use Rattle.reader.specs.code.Cursor.{left_at, StandsIn, CursorAt, CursorCounted, RunInHand, WordOf, CursorStep}
+use Rattle.reader.specs.Reader.{all_yielded}
+use Rattle.reader.specs.code.Cursor.{left_at, StandsIn, RunInHand, CursorStep}
 
--- a reader that is opened
-pub opened_reader :
-    {c : List ℕ} {t a z : ℕ} {r : WalkStart} → WalkStarted c t a z r →
-    (r.number ≡ question_number c t a z) × CursorAt c (record { at = 0; left = 0; walk = r.walk }) (all_yielded c t a z)
-unfolding all_yielded
-opened_reader s = (s.number, record { stands = ∣ record { inside = zero-le; ready = s.ready } ∣₁; rest = s.wanted })
+-- the cursor before a walk over live blocks
+abbrev pub before : Walk → Cursor
+before w = record { at = 0; left = 0; walk = w }
 
--- the same with what is ahead counted
-pub counted_reader :
-    {c : List ℕ} {t a z : ℕ} {r : WalkCount} → WalkCounted c t a z r →
-    CursorCounted c t a z (record { number = r.start.number; count = r.count; cursor = record { at = 0; left = 0; walk = r.start.walk } })
+pub stands_before : {c : List ℕ} {w : Walk} → ReadyWalk c w → StandsIn c (before w)
+stands_before r = ∣ record { inside = zero-le; ready = r } ∣₁
+
+-- all that is yielded, refused or not
+pub all_found : (c : List ℕ) (t a z : ℕ) → 0 ≡ question_number c t a z → found c t a z ≡ all_yielded c t a z
 unfolding all_yielded
-counted_reader {c} {t} {a} {z} {r} s =
-    let o = opened_reader s.started in
-    record {
-      number = o.0;
-      counted = s.counted ∙ ap length s.started.wanted;
-      few = rw s.counted s.started.few;
-      at = o.1;
-    }
+all_found c t a z e = rw (sym e)
+
+pub none_yielded : (c : List ℕ) (t a z : ℕ) (r : Refusal) → number r ≡ question_number c t a z → [] ≡ all_yielded c t a z
+unfolding all_yielded
+none_yielded c t a z r e = rw (ne_eqb (question_number c t a z) 0 (λ q. let h = number_positive r in omega (arith, e, q)))
 
 -- no run is left: the next one is taken in hand
 pub run_taken :
-    {c : List ℕ} {k : Cursor} {r : WalkRun} → Next c k.walk r → k.left ≤ 0 → (r.len ≡ 0 → ⊥) →
-    RunInHand c k (record { at = r.start; left = r.len; walk = r.rest })
-run_taken {c} {k} {r} x l h =
+    {c : List ℕ} {k : Cursor} {r : Run Walk} → NextRun c k.walk r → k.left ≤ 0 →
+    RunInHand c k (record { at = r.part.start; left = r.part.len; walk = r.rest })
+run_taken {c} {k} {r} x l =
     let e : k.left ≡ 0 = omega arith in
     record {
-      some = omega arith;
+      some = x.some;
       stands = λ s. ∥∥₁_map s (λ i. record { inside = x.inside; ready = x.ready i.ready });
       same = λ s. ∥∥₁_elim s (Prim.hlevel props) (λ i. rw e (x.rest i.ready));
     }
 
-pub none_taken : {c : List ℕ} {k : Cursor} {r : WalkRun} → Next c k.walk r → k.left ≤ 0 → r.len ≡ 0 → StandsIn c k → left_at c k ≡ []
-none_taken {c} {k} {r} x l h s =
+pub none_taken : {c : List ℕ} {k : Cursor} → (ReadyWalk c k.walk → ahead c k.walk ≡ []) → k.left ≤ 0 → StandsIn c k → left_at c k ≡ []
+none_taken {c} {k} none l s =
     let e : k.left ≡ 0 = omega arith in
-    ∥∥₁_elim s (Prim.hlevel props) (λ i. rw e (x.none i.ready h))
+    ∥∥₁_elim s (Prim.hlevel props) (λ i. rw e (none i.ready))
 
 -- a posting of the run is left
 pub step_posting :

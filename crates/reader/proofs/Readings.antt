@@ -12,7 +12,15 @@ use lib.ListN.{length, take, drop, get_or, set, length-take, length-drop}
 use lib.Seq.{sets, take_all, take-nil, length-sets, drop-cons}
 use lib.Dec.{eqb}
 use Rattle.pair.proofs.Lists.{sets_next}
-use Rattle.found.specs.Found.{question_number}
+use Rattle.std.specs.Prelude.{Result}
+use Rattle.std.specs.Result.{IsErrAnd, result_unwrap_or}
+use Rattle.std.proofs.lemmas.Result.{err_from_is_err_and}
+use borrow.Author.Tests.{ne_eqb}
+use Rattle.refusal.specs.declared.Refusal.{Refusal}
+use Rattle.refusal.specs.Refusal.{number, number_of}
+use Rattle.refusal.proofs.Numbers.{number_positive, number_returned}
+use Rattle.found.specs.Found.{found, question_number}
+use Rattle.reader.proofs.Cursors.{all_found}
 use Rattle.reader.specs.Reader.{all_yielded, posting, ended, yielded, read, yield_of, ReadOff}
 
 -- the yield after n others, from all that is yielded
@@ -27,12 +35,25 @@ pub yielded_after : (c : List ℕ) (t a z n : ℕ) (y : Option ℕ) → option_m
 unfolding yielded
 yielded_after c t a z n y e = nth_yield (all_yielded c t a z) n y e
 
--- a refused reading writes nothing
+-- a refused reading reads none and writes nothing
 pub read_refused :
     (c : List ℕ) (t a z : ℕ) (answer : List ℕ) → eqb (question_number c t a z) 0 ≡ false →
     read c t a z answer ≡ record { number = question_number c t a z; count = 0; answer = answer }
 unfolding read all_yielded
 read_refused c t a z answer e = rw (e, take-nil (length answer))
+
+pub refused_reading :
+    (c : List ℕ) (t a z : ℕ) (answer : List ℕ) (refusal : Refusal) (result : Result ℕ Refusal) → IsErrAnd result (λ r. r ≡ refusal) →
+    number refusal ≡ question_number c t a z → ReadOff (number_of result) (result_unwrap_or result 0) answer (read c t a z answer)
+refused_reading c t a z answer refusal result h e =
+    let p = err_from_is_err_and result h in
+    let some : question_number c t a z ≡ 0 → ⊥ = λ q. let l = number_positive refusal in omega (arith, e, q) in
+    rw (read_refused c t a z answer (ne_eqb (question_number c t a z) 0 some))
+    record {
+      of_number = number_returned result refusal h ∙ e;
+      of_count = ap (λ r. result_unwrap_or r 0) p.1;
+      of_answer = refl;
+    }
 
 -- the first i of all postings are in the answer words, and the others are left
 pub record Taking (all left l now : List ℕ) (i : ℕ) : Type 0 where
@@ -60,10 +81,11 @@ taking_turn {all} {left} {then} {l} {now} {i} {p} g e =
     }
 
 pub taking_full :
-    (c : List ℕ) (t a z : ℕ) {left l now : List ℕ} {i m : ℕ} → Taking (all_yielded c t a z) left l now i → i ≡ length l → m ≡ question_number c t a z →
-    ReadOff m (length now) now (read c t a z l)
+    (c : List ℕ) (t a z : ℕ) {left l now : List ℕ} {i : ℕ} → Taking (found c t a z) left l now i → i ≡ length l → 0 ≡ question_number c t a z →
+    ReadOff 0 (length now) now (read c t a z l)
 unfolding read
 taking_full c t a z g e m =
+    rw (sym (all_found c t a z m))
     record {
       of_number = m;
       of_count = rw length-take (omega (arith, g.some, taking_length g));
@@ -71,12 +93,13 @@ taking_full c t a z g e m =
     }
 
 pub taking_end :
-    (c : List ℕ) (t a z : ℕ) {left l now : List ℕ} {i m : ℕ} → Taking (all_yielded c t a z) left l now i → left ≡ [] → i ≤ length l → m ≡ question_number c t a z →
-    ReadOff m i (set now i (get_or now i 0)) (read c t a z l)
+    (c : List ℕ) (t a z : ℕ) {left l now : List ℕ} {i : ℕ} → Taking (found c t a z) left l now i → left ≡ [] → i ≤ length l → 0 ≡ question_number c t a z →
+    ReadOff 0 i (set now i (get_or now i 0)) (read c t a z l)
 unfolding read
 taking_end c t a z {left} {l} {now} {i} g none h m =
-    let all = all_yielded c t a z in
+    let all = found c t a z in
     let past : length all ≤ i = omega (arith, length-drop i all, ap length (sym none ∙ g.rest)) in
+    rw (sym (all_found c t a z m))
     record {
       of_number = m;
       of_count = rw length-take (omega (arith, g.some, past));

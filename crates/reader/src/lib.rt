@@ -2,12 +2,17 @@
 
 #![tactic(auto)]
 
-ghost use Rattle.std.specs.Prelude.{◌≡◌};
-ghost use Rattle.found.specs.Found.{question_number};
+ghost use Rattle.std.specs.Prelude.{◌≡◌, ◌<◌, length, IfOk};
+ghost use Rattle.std.specs.Result.{result_unwrap_or};
+ghost use Rattle.refusal.specs.Refusal.{number_of};
+ghost use Rattle.pair.specs.Rank.{word_limit};
+ghost use Rattle.found.specs.Found.{found, question_number};
 ghost use Rattle.reader.specs.code.Cursor.{left_at, StandsIn};
 ghost use Rattle.reader.specs.Reader.{all_yielded, yielded, yield_of, read, ReadOff};
 
 use crate::cursor::{Cursor, open_at, step_at};
+use found::walk::{Walk, start_counted};
+use refusal::Refusal;
 
 pub mod cursor; // a place in the card that moves on by one posting at a time
 
@@ -21,28 +26,64 @@ pub struct PostingReader<'a> {
     ghost stands: { StandsIn card.now cursor },
 }
 
+// A reader, and how many postings it has before it.
+#[derive(Drop)]
+pub struct Counted<'a> {
+    pub count: usize,
+    pub reader: PostingReader<'a>,
+}
+
 // Judges the card and the question. Refused, the reader carries the number and yields nothing.
 pub fn open<'a>(card: &'a [u32], term: u32, from: u32, to: u32) -> PostingReader<'a>
     ensures number { result.number ≡ question_number card.now term from to }
     ensures card { result.card ≡ card.entry }
     ensures left { left_at result.card.now result.cursor ≡ all_yielded card.now term from to }
 {
-    let opening = open_at(card, term, from, to);
-    PostingReader {
-        number: opening.number,
-        card,
-        cursor: opening.cursor,
+    match open_at(card, term, from, to) {
+        Ok(cursor) => PostingReader {
+            number: 0,
+            card,
+            cursor,
+        },
+        Err(refusal) => PostingReader {
+            number: u32::from(refusal),
+            card,
+            cursor: Cursor::before(Walk::EMPTY),
+        },
     }
 }
 
+// Judges the card and the question, and counts the postings before the reader.
+pub fn open_counted<'a>(
+    card: &'a [u32],
+    term: u32,
+    from: u32,
+    to: u32,
+) -> Result<Counted<'a>, Refusal>
+    ensures number { number_of result ≡ question_number card.now term from to }
+    ensures count { IfOk result (λ r. (r.count ≡ length (found card.now term from to)) × (r.count < word_limit)) }
+    ensures left { IfOk result (λ r. left_at r.reader.card.now r.reader.cursor ≡ found card.now term from to) }
+{
+    let counted = start_counted(card, term, from, to)?;
+    Ok(Counted {
+        count: counted.count,
+        reader: PostingReader {
+            number: 0,
+            card,
+            cursor: Cursor::before(counted.walk),
+        },
+    })
+}
+
 impl<'a> Iterator for PostingReader<'a> {
-    ghost use Rattle.std.specs.Iterator.{YieldsFirst, item_count};
+    ghost use Rattle.std.specs.Iterator.{item_count};
+    ghost use Rattle.reader.specs.code.PostingReader.{left_in, ReaderStep};
 
     type Item = u32;
 
-    ghost next_gives = { λ r y then. YieldsFirst (λ s. left_at s.card.now s.cursor) r y then × (then.number ≡ r.number) × (then.card ≡ r.card) };
+    ghost next_gives = { ReaderStep };
 
-    ghost remaining = { item_count (λ s. left_at s.card.now s.cursor) };
+    ghost remaining = { item_count left_in };
 
     // The next posting, or the end; nothing is judged.
     fn next(&mut self) -> Option<u32> {
@@ -57,27 +98,27 @@ pub fn posting(card: &[u32], term: u32, from: u32, to: u32, n: usize) -> Option<
     open(card, term, from, to).nth(n)
 }
 
-// The number of a refusal, and how many postings were read.
-#[derive(Clone, Copy)]
-pub struct Reading {
-    pub number: u32,
-    pub count: usize,
-}
-
-// Opens a reader and reads the first postings, as many as there are answer words.
-pub fn read(card: &[u32], term: u32, from: u32, to: u32, answer: &mut [u32]) -> Reading
-    ensures { ReadOff result.number result.count answer.new (read card.now term from to answer.old) }
+// Opens a reader and reads the first postings, as many as there are answer words. Answers how many.
+pub fn read(
+    card: &[u32],
+    term: u32,
+    from: u32,
+    to: u32,
+    answer: &mut [u32],
+) -> Result<usize, Refusal>
+    ensures { ReadOff (number_of result) (result_unwrap_or result 0) answer.new (read card.now term from to answer.old) }
 {
-    let mut reader = open(card, term, from, to);
-    let number = reader.number;
+    let cursor = open_at(card, term, from, to)?;
+    let mut reader = PostingReader {
+        number: 0,
+        card,
+        cursor,
+    };
     for (count, word) in answer.iter_mut().enumerate() {
         match reader.next() {
             Some(position) => *word = position,
-            None => return Reading { number, count },
+            None => return Ok(count),
         }
     }
-    Reading {
-        number,
-        count: answer.len(),
-    }
+    Ok(answer.len())
 }

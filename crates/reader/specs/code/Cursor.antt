@@ -1,12 +1,9 @@
 -- The posting reader's cursor, and what is yielded at it.
 use Rattle.std.specs.Prelude.{ℕ, Option, ◌+◌, ◌≤◌, ◌<◌, ◌≡◌, List, ◌++◌, length, take, drop, get_or}
 use Rattle.std.specs.Iterator.{YieldsFirst}
-use Rattle.pair.specs.Rank.{word_limit}
-use Rattle.found.specs.Found.{question_number}
 use Rattle.found.specs.code.Walk.{ahead, ReadyWalk}
 use Rattle.reader.specs.declared.cursor.Cursor.{Cursor}
-use Rattle.reader.specs.declared.cursor.Counted.{Counted}
-use Rattle.reader.specs.Reader.{all_yielded, Yielded, posting, ended, yield_of}
+use Rattle.reader.specs.Reader.{Yielded, posting, ended, yield_of}
 
 -- what is left at a cursor: the postings of its run, and those ahead of its walk
 abbrev pub left_at : List ℕ → Cursor → List ℕ
@@ -25,13 +22,6 @@ StandsIn c k = ∥ Standing c k ∥₁
 pub record CursorAt (c : List ℕ) (k : Cursor) (ps : List ℕ) : Type 0 where
   pub stands : StandsIn c k
   pub rest : left_at c k ≡ ps
-
--- the number of a question, the count of all that a reader of it yields, and the cursor before that
-pub record CursorCounted (c : List ℕ) (t a z : ℕ) (r : Counted) : Type 0 where
-  pub number : r.number ≡ question_number c t a z
-  pub counted : r.count ≡ length (all_yielded c t a z)
-  pub few : r.count < word_limit
-  pub at : CursorAt c r.cursor (all_yielded c t a z)
 
 -- a cursor with a run in hand, where the same is left
 pub record RunInHand (c : List ℕ) (k r : Cursor) : Type 0 where

@@ -1,5 +1,5 @@
 -- `reader::cursor::step_at` meets its contract.
-use Rattle.reader.proofs.Cursors.{step_posting, step_end, step_astray}
+use Rattle.reader.proofs.Cursors.{step_posting, step_astray}
 use Rattle.reader.proofs.cursor.step_at.Goals as goal
 
 pub returns : goal.returns
