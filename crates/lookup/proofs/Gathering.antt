@@ -2,68 +2,44 @@
 use Prim.Native.Nat.{ℕ, ◌+◌, ◌-◌, ◌≤◌, ◌<◌}
 use native.Mathlib.Omega.{arith}
 use mathlib.Core.Path.{◌≡◌, refl, sym, ap, ◌∙◌}
-use mathlib.Core.List.{List, [], ◌++◌, append_assoc, append-nil}
-use lib.ListN.{length, take, drop, length-append}
-use lib.Seq.{sets, length-sets}
-use Rattle.pair.proofs.Lists.{length_part, sets_behind}
+use mathlib.Core.List.{List, ◌++◌, append_assoc}
+use borrow.Rule.Slice.PartMut.{put_mid}
+use lib.ListN.{length, take, drop}
+use lib.Seq.{sets, sets-eq, drop-drop}
+use Rattle.pair.proofs.Lists.{sets_behind}
 use Rattle.wanted.specs.declared.Part.{Part}
 use Rattle.card.specs.code.Configuration.{ConfigurationOf, place_on}
 use Rattle.card.specs.declared.layout.Configuration.{Configuration}
 use Rattle.found.specs.declared.walk.Stretch.{Stretch}
 use Rattle.found.specs.code.Walk.{PlacePart, ahead_of, Ready}
-use Rattle.found.proofs.Walking.{ready_behind, ahead_part, left, nothing_left}
+use Rattle.found.proofs.Walking.{ahead_to, ahead_none, ahead_most, ahead_turn, length_turn}
 
--- the positions done are moved to the words from at on, and the others are in the b blocks from the place p on
-pub record Moving (c l : List ℕ) (t z : ℕ) (s : Stretch) (at : ℕ) (now : List ℕ) (p b next : ℕ) : Type 0 where
-  pub ready : Ready c (left s p b)
-  pub done : List ℕ
-  pub all : ahead_of c t z s ≡ done ++ ahead_of c t z (left s p b)
-  pub count : next ≡ at + length done
-  pub same : now ≡ sets l at done
+-- a part of a slice is written whole
+pub part_written : (l vs : List ℕ) (a e : ℕ) → a + length vs ≡ e → e ≤ length l → put_mid a (e - a) l vs ≡ sets l a vs
+part_written l vs a e n h =
+    let k : e - a ≡ length vs = omega arith in
+    sym (sets-eq vs l a (omega arith) ∙ append_assoc (take a l) vs (drop (a + length vs) l)
+    ∙ rw k (ap (λ d. take a l ++ (vs ++ d)) (sym (drop-drop (length vs) a l))))
 
-pub moving_start : {c l : List ℕ} {t z : ℕ} {s : Stretch} {at : ℕ} → Ready c s → Moving c l t z s at l s.place s.blocks at
-moving_start r = record { ready = r; done = []; all = refl; count = omega arith; same = refl }
+-- the positions of the first j blocks are moved to the words from at on
+pub record Moving (c l : List ℕ) (t z : ℕ) (s : Stretch) (at : ℕ) (now : List ℕ) (j next : ℕ) : Type 0 where
+  pub count : next ≡ at + length (ahead_to c t z s j)
+  pub same : now ≡ sets l at (ahead_to c t z s j)
 
-pub moving_length : {c l now : List ℕ} {t z : ℕ} {s : Stretch} {at p b next : ℕ} → Moving c l t z s at now p b next → length now ≡ length l
-moving_length {c} {l} {at = at} g = ap length g.same ∙ length-sets l at g.done
+pub moving_start : (c l : List ℕ) (t z : ℕ) (s : Stretch) (at : ℕ) → Moving c l t z s at l 0 at
+moving_start c l t z s at =
+    record { count = omega (arith, ap length (ahead_none c t z s)); same = sym (ap (sets l at) (ahead_none c t z s)) }
 
--- the block at the place is read
-module _ {c l now : List ℕ} {t z : ℕ} {s : Stretch} {at p b next : ℕ} {x : Part} {k : Configuration} {q : ℕ} (g : Moving c l t z s at now p b next) (o : ConfigurationOf c k) (h : 0 < b) (y : PlacePart c p t s.after z x) (e : q ≡ place_on k.places p 1) where
-  abbrev part : List ℕ
-  part = take x.len (drop x.start c)
-
-  abbrev behind : List ℕ
-  behind = ahead_of c t z (left s q (b - 1))
-
-  all_part : ahead_of c t z s ≡ (g.done ++ part) ++ behind
-  all_part = g.all ∙ ap (λ l. g.done ++ l) (ahead_part o h y e g.ready) ∙ sym (append_assoc g.done part behind)
-
+-- a block is read
+module _ {c l now : List ℕ} {t z : ℕ} {s : Stretch} {at j next : ℕ} {x : Part} {k : Configuration} {q : ℕ} (g : Moving c l t z s at now j next) (r : Ready c s) (o : ConfigurationOf c k) (h : j < s.blocks) (e : q ≡ place_on k.places s.place j) (y : PlacePart c q t s.after z x) where
   -- its part has room
-  pub moving_room : at + length (ahead_of c t z s) ≤ length l → next + x.len ≤ length now
-  moving_room f =
-      omega (
-        arith,
-        moving_length g,
-        g.count,
-        ap length all_part ∙ length-append (g.done ++ part) behind,
-        length-append g.done part,
-        length_part c x.start x.len y.inside,
-      )
+  pub moving_room : at + length (ahead_of c t z s) ≤ length l → next + x.len ≤ length l
+  moving_room f = omega (arith, g.count, length_turn o h e y r, ahead_most c t z s (j + 1) (omega arith))
 
   -- and is moved
-  pub moving_turn : {m : List ℕ} → m ≡ sets now next part → Moving c l t z s at m q (b - 1) (next + x.len)
+  pub moving_turn : {m : List ℕ} → m ≡ sets now next (take x.len (drop x.start c)) → Moving c l t z s at m (j + 1) (next + x.len)
   moving_turn {m} f =
       record {
-        ready = ready_behind o h y e g.ready;
-        done = g.done ++ part;
-        all = all_part;
-        count = omega (arith, g.count, length-append g.done part, length_part c x.start x.len y.inside);
-        same = sets_behind l at g.done part g.same refl (rw g.count at f);
+        count = omega (arith, g.count, length_turn o h e y r);
+        same = rw (ahead_turn o h e y r) (sets_behind l at (ahead_to c t z s j) (take x.len (drop x.start c)) g.same refl (rw g.count at f));
       }
-
-pub moving_end :
-    {c l now : List ℕ} {t z : ℕ} {s : Stretch} {at p b next : ℕ} → Moving c l t z s at now p b next → b ≡ 0 →
-    (next ≡ at + length (ahead_of c t z s)) × (now ≡ sets l at (ahead_of c t z s))
-moving_end {c} {t = t} {z} {s} {at} {p} {b} g e =
-    let whole : ahead_of c t z s ≡ g.done = g.all ∙ rw (nothing_left c t z s p b e) (append-nil g.done) in
-    (rw whole g.count, rw whole g.same)

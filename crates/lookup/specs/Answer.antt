@@ -1,22 +1,28 @@
--- What a lookup answers, in the paper's numbers.
-use Rattle.std.specs.Prelude.{ℕ, cond, eqb}
-use Rattle.lookup.specs.declared.LookupAnswer.{LookupAnswer}
-use Rattle.lookup.specs.declared.LookupAnswer.TheVariants.{Refused, Found}
-use Rattle.found.specs.Found.{Lookup}
+-- What a lookup and a run view answer, in the paper's numbers.
+use Rattle.std.specs.Prelude.{ℕ, ◌≡◌, Result, Ok, Err, List}
+use Rattle.refusal.specs.declared.Refusal.{Refusal}
+use Rattle.refusal.specs.Refusal.{number_of}
+use Rattle.wanted.specs.declared.Part.{Part}
+use Rattle.lookup.specs.declared.Found.{Found}
+use Rattle.found.specs.Found as found
 
--- the number, the count of positions and the count of blocks read that each case of the answer stands for
-abbrev pub number_of : LookupAnswer → ℕ
-number_of (Refused number) = number
-number_of (Found count blocks) = 0
+-- how many positions were found and how many blocks were read, 0 where the lookup is refused
+abbrev pub count_of : Result Found Refusal → ℕ
+count_of (Ok f) = f.count
+count_of (Err refusal) = 0
 
-abbrev pub count_of : LookupAnswer → ℕ
-count_of (Refused number) = 0
-count_of (Found count blocks) = count
+abbrev pub blocks_read_of : Result Found Refusal → ℕ
+blocks_read_of (Ok f) = f.blocks
+blocks_read_of (Err refusal) = 0
 
-abbrev pub blocks_read_of : LookupAnswer → ℕ
-blocks_read_of (Refused number) = 0
-blocks_read_of (Found count blocks) = blocks
+-- the answer of the code, and the answer words that it leaves, are those of a lookup
+pub record Answered (l : found.Lookup) (result : Result Found Refusal) (answer : List ℕ) : Type 0 where
+  pub of_number : number_of result ≡ l.number
+  pub of_count : count_of result ≡ l.count
+  pub of_blocks : blocks_read_of result ≡ l.blocks
+  pub of_answer : answer ≡ l.answer
 
--- the case that a lookup answers: its number where that is not 0, the two counts where it is
-abbrev pub answer_of : Lookup → LookupAnswer
-answer_of l = cond (eqb l.number 0) (Found l.count l.blocks) (Refused l.number)
+-- the run view's part of the card, the empty one where it is refused
+abbrev pub part_of : Result Part Refusal → Part
+part_of (Ok part) = part
+part_of (Err refusal) = record { start = 0; len = 0 }

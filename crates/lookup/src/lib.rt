@@ -3,81 +3,66 @@
 #![tactic(auto)]
 
 ghost use Rattle.std.specs.Prelude.{◌≡◌, ◌+◌, ◌*◌};
+ghost use Rattle.refusal.specs.Refusal.{number_of};
 ghost use Rattle.pair.specs.Bounds.{lowest, highest};
 ghost use Rattle.found.specs.Found.{question_number, lookup};
 ghost use Rattle.found.specs.Views.{run, run_start, Viewed};
-ghost use Rattle.lookup.specs.Answer.{answer_of};
+ghost use Rattle.lookup.specs.Answer.{Answered, part_of};
 
 use crate::taking::copy_ahead;
-use found::question_number;
-use found::walk::{next_run, start_counted, start_walk};
+use found::check_question;
+use found::walk::{WalkCount, next_run, start_counted, start_walk};
 use pair::Pair;
+use refusal::Refusal;
+use wanted::Part;
 
 mod taking; // the wanted positions of a walk moved to answer words
 
-// The number of a lookup with fewer answer words than positions.
-const TOO_FEW_WORDS: u32 = 10;
-
-// A lookup's answer: the number of a refusal, or how many positions were found and how many blocks were read.
+// What a lookup found: so many positions, in so many blocks that were read.
 #[derive(Clone, Copy)]
-pub enum LookupAnswer {
-    Refused(u32),
-    Found { count: u32, blocks: u32 },
+pub struct Found {
+    pub count: u32,
+    pub blocks: u32,
 }
 
 // Writes the live positions of the term, from one to another, into the first answer words.
-pub fn lookup(card: &[u32], term: u32, from: u32, to: u32, answer: &mut [u32]) -> LookupAnswer
-    ensures { (result ≡ answer_of (lookup card.now term from to answer.old)) × (answer.new ≡ (lookup card.now term from to answer.old).answer) }
+pub fn lookup(
+    card: &[u32],
+    term: u32,
+    from: u32,
+    to: u32,
+    answer: &mut [u32],
+) -> Result<Found, Refusal>
+    ensures { Answered (lookup card.now term from to answer.old) result answer.new }
 {
-    let counted = start_counted(card, term, from, to);
-    let start = counted.start;
-    let count = counted.count;
-    let number = start.number;
-    if number != 0 {
-        return LookupAnswer::Refused(number);
-    }
-    let walk = start.walk;
+    let WalkCount { walk, count } = start_counted(card, term, from, to)?;
     if answer.len() < count {
-        return LookupAnswer::Refused(TOO_FEW_WORDS);
+        return Err(Refusal::TooFewWords);
     }
     copy_ahead(card, walk, answer);
-    let new = walk.new;
-    let old = walk.old;
-    let found = count as u32;
-    let blocks = new.blocks as u32 + old.blocks as u32;
-    LookupAnswer::Found {
-        count: found,
-        blocks,
-    }
+    Ok(Found {
+        count: count as u32,
+        blocks: walk.new.blocks as u32 + walk.old.blocks as u32,
+    })
 }
 
 // The lookup of all positions of a term: from the lowest pair's to the highest pair's.
-pub fn lookup_all(card: &[u32], term: u32, answer: &mut [u32]) -> LookupAnswer
-    ensures { (result ≡ answer_of (lookup card.now term lowest.position highest.position answer.old)) × (answer.new ≡ (lookup card.now term lowest.position highest.position answer.old).answer) }
+pub fn lookup_all(card: &[u32], term: u32, answer: &mut [u32]) -> Result<Found, Refusal>
+    ensures { Answered (lookup card.now term lowest.position highest.position answer.old) result answer.new }
 {
     let low = Pair::LOWEST;
     let high = Pair::HIGHEST;
     lookup(card, term, low.position, high.position, answer)
 }
 
-// The number of a run view that is refused, and where in the card the run starts and how long it is.
-#[derive(Clone, Copy)]
-pub struct RunPart {
-    pub number: u32,
-    pub start: usize,
-    pub len: usize,
-}
-
-// The wanted live positions of the first block that has any, new segment before old; none where there are none or the question is refused.
-pub fn run_part(card: &[u32], term: u32, from: u32, to: u32) -> RunPart
-    ensures { Viewed card.now term from to result.number result.start result.len }
+// The part of the card that has the wanted live positions of the first block that has any, new segment before old; an empty part where none has.
+pub fn run_part(card: &[u32], term: u32, from: u32, to: u32) -> Result<Part, Refusal>
+    ensures { Viewed card.now term from to (number_of result) (part_of result).start (part_of result).len }
 {
-    let start = start_walk(card, term, from, to);
-    let run = next_run(card, start.walk);
-    RunPart {
-        number: start.number,
-        start: run.start,
-        len: run.len,
+    let walk = start_walk(card, term, from, to)?;
+    match next_run(card, walk) {
+        Some(run) => Ok(run.part),
+        None => Ok(Part { start: 0, len: 0 }),
     }
 }
 
@@ -85,7 +70,7 @@ pub fn run_part(card: &[u32], term: u32, from: u32, to: u32) -> RunPart
 pub fn run_view_number(card: &[u32], term: u32, from: u32, to: u32) -> u32
     ensures { result ≡ question_number card.now term from to }
 {
-    question_number(card, term, from, to)
+    refusal::number_of(check_question(card, term, from, to))
 }
 
 // The run view as a part of the card itself.
@@ -93,8 +78,8 @@ pub fn run_view(card: &[u32], term: u32, from: u32, to: u32) -> &[u32]
     ensures result_value { result.now ≡ run card.now term from to }
     ensures ref_ptr_value { result.ref_ptr ≡ (card.entry.ref_ptr.0, run_start card.now term from to * 4 + card.entry.ref_ptr.1) }
 {
-    let part = run_part(card, term, from, to);
-    let start = part.start;
-    let end = start + part.len;
-    &card[start..end]
+    let Ok(part) = run_part(card, term, from, to) else {
+        return &card[0..0];
+    };
+    &card[part.start..part.start + part.len]
 }

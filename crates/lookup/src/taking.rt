@@ -5,18 +5,15 @@ ghost use Rattle.found.specs.code.Walk.{ahead_of, ahead, Ready, ReadyWalk};
 
 use card::layout::Configuration;
 use found::walk::{Stretch, Walk, place_part};
+use wanted::Part;
 
-// Moves a part of the card to answer words.
-fn copy_part(card: &[u32], start: usize, len: usize, answer: &mut [u32], at: usize)
-    requires len_in_bounds { start + len ≤ length card.now }
-    requires len_in_bounds_2 { at + len ≤ length answer.old }
-    ensures { answer.new ≡ sets answer.old at (take len (drop start card.now)) }
+// Moves a part of the card to the answer words from one on.
+fn copy_part(card: &[u32], part: Part, answer: &mut [u32], at: usize)
+    requires part_in_bounds { part.start + part.len ≤ length card.now }
+    requires answer_in_bounds { at + part.len ≤ length answer.old }
+    ensures { answer.new ≡ sets answer.old at (take part.len (drop part.start card.now)) }
 {
-    let mut j: usize = 0;
-    while j < len {
-        answer[at + j] = card[start + j];
-        j += 1;
-    }
+    answer[at..at + part.len].copy_from_slice(&card[part.start..part.start + part.len]);
 }
 
 // Moves the wanted positions of a stretch to the answer words from one on; the word behind them.
@@ -33,18 +30,12 @@ fn copy_stretch(
     ensures { (result ≡ at + length (ahead_of card.now term to s)) × (answer.new ≡ sets answer.old at (ahead_of card.now term to s)) }
 {
     let k = Configuration::of(card);
-    let after = s.after;
-    let mut place = s.place;
-    let mut blocks = s.blocks;
     let mut next = at;
-    while 0 < blocks {
-        let part = place_part(card, place, term, after, to);
-        let start = part.start;
+    for j in 0..s.blocks {
+        let part = place_part(card, k.place_on(s.place, j), term, s.after, to);
+        copy_part(card, part, answer, next);
         let len = part.len;
-        copy_part(card, start, len, answer, next);
         next += len;
-        place = k.place_on(place, 1);
-        blocks -= 1;
     }
     next
 }

@@ -2,13 +2,12 @@
 use Rattle.lookup.proofs.CodeAnswers.{answered_refused, answered_short, answered_found}
 use Rattle.lookup.proofs.lookup.Goals as goal
 
-pub returns-then-number-ne0 : goal.returns-then-number-ne0
-returns-then-number-ne0 c = answered_refused _ _ _ _ _ c.start_counted-counted.ensures.started.number c.if-number-ne0.true
+pub returns-in_err-walk : goal.returns-in_err-walk
+returns-in_err-walk c =
+    answered_refused _ _ _ _ _ c.from_residual.result c.in_err-walk.field-0.0 c.in_err-walk.ensures.number c.from_residual.ensures.1
 
 pub returns-then-answer-count : goal.returns-then-answer-count
-returns-then-answer-count c = let w = c.start_counted-counted.ensures in
-    answered_short _ _ _ _ _ w.started c.if-number-ne0.false w.counted c.if-answer-count.true
+returns-then-answer-count c = answered_short c.in_ok-walk.ensures.number c.in_ok-walk.ensures.counted c.if-answer-count.true
 
 pub returns : goal.returns
-returns c = let w = c.start_counted-counted.ensures in
-    answered_found _ _ _ _ _ w.started c.if-number-ne0.false w.counted c.if-answer-count.false c.copy_ahead.ensures
+returns c = answered_found _ c.in_ok-walk.ensures.number c.in_ok-walk.ensures.counted c.if-answer-count.false c.copy_ahead.ensures

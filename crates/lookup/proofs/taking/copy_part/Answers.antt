@@ -1,7 +1,8 @@
--- `lookup::taking::copy_part` meets its contract. The invariant: the first j words are moved.
+-- `lookup::taking::copy_part` meets its contract: the part of the card has the length of the part of the answer words.
 use native.Mathlib.Omega.{arith}
-use Rattle.pair.proofs.Copying.{copying_turn}
+use Rattle.std.proofs.lemmas.Grind.{common_steps}
+use Rattle.lookup.proofs.Gathering.{part_written}
 use Rattle.lookup.proofs.taking.copy_part.Goals as goal
 
-pub loop-j-preserved : goal.loop-j-preserved
-loop-j-preserved c = copying_turn c.loop-j.invariant c.loop-j-test.true (omega arith)
+pub returns : goal.returns
+returns c = grind (arith, common_steps, part_written)
