@@ -13,7 +13,7 @@ use Rattle.card.specs.Layout.{place_count, length_of_old, length_of_new, width_o
 use Rattle.card.specs.Sound.{blocks_sound, first_reaches, boundary_agrees, segments_sound, judged}
 use Rattle.repeat.specs.Repeats.{repeats}
 use Rattle.batch.specs.Batch.{updates, any_update, adds, removes, latest, withdrawn, with_added, applied, ill_formed, falls, arrivals, ill_numbered, batch_number}
-use Rattle.update.specs.declared.forecast.ForecastAnswer.TheVariants.{Refused, Finishes, Stops}
+use Rattle.update.specs.Forecast.{Refused, Finishes, Stops}
 use Rattle.update.specs.Step.{remains, spent, configured, next_boundary, freed, grown, configuration, due_block, due_entry, next_write, the_write, crowded, step_number, taken, refused, step}
 use Rattle.update.specs.Pass.{blocks_from, blocks, step_limit, uncut}
 use Rattle.update.specs.Forecast.{number_of, blocks_of, limit_of, finishes_of, writes_of, free_writes, foreseen, outlook, forecast_number, forecast, foretold}

@@ -20,11 +20,18 @@ use Rattle.card.specs.Sound.{judged}
 use Rattle.card.proofs.Facts.{Facts, facts}
 use Rattle.card.proofs.Frame.{Alike, judged_alike}
 use Rattle.batch.specs.Batch.{batch_number}
-use Rattle.update.specs.declared.forecast.ForecastAnswer.{ForecastAnswer}
+use Rattle.std.proofs.Common.{Result, Err}
+use Rattle.std.specs.Result.{IsErrAnd}
+use Rattle.std.proofs.lemmas.Result.{err_from_is_err_and}
+use Rattle.refusal.specs.declared.Refusal.{Refusal}
+use Rattle.refusal.specs.Refusal.{number}
+use Rattle.refusal.proofs.Numbers.{number_positive}
+use Rattle.update.specs.Forecast.{ForecastAnswer}
 use Rattle.update.specs.Step.{remains, grown, next_write, the_write, crowded, step_number, taken, refused, step}
 use Rattle.update.specs.Pass.{blocks, step_limit, configurations, after_writes, uncut}
-use Rattle.update.specs.declared.forecast.ForecastAnswer.TheVariants.{Refused}
-use Rattle.update.specs.Forecast.{limit_of, free_writes, foreseen, outlook, forecast_number, forecast, foretold, AfterStep, Foretells}
+use Rattle.update.specs.Forecast.{Refused}
+use Rattle.update.specs.declared.forecast.Outlook.{Outlook}
+use Rattle.update.specs.Forecast.{forecast_of, limit_of, free_writes, foreseen, outlook, forecast_number, forecast, foretold, AfterStep, Foretells}
 use Rattle.update.proofs.Blocks.{blocks_next, blocks_none, blocks_some}
 use Rattle.update.proofs.Configuration.{some, configuration_on}
 use Rattle.update.proofs.Ends.{work, work_some, work_limit, going}
@@ -63,14 +70,14 @@ ahead x g w l h v m few blocks writes limit = go (eqb w g) refl
           comes = ap (λ k. record { number = 8; finished = false; writes = k }) sum;
         })
 
--- on a sound card with a batch in order the forecast is by what remains
-pub forecast_judged : (c b : List ℕ) → (judged c ≡ 0 → ⊥) → forecast c b ≡ Refused (judged c)
-unfolding forecast forecast_number first_of
-forecast_judged c b n = let e : eqb (judged c) 0 ≡ false = ne_eqb (judged c) 0 n in rw (e, e)
-
-pub forecast_unordered : (c b : List ℕ) → judged c ≡ 0 → (batch_number b ≡ 0 → ⊥) → forecast c b ≡ Refused (batch_number b)
-unfolding forecast forecast_number first_of
-forecast_unordered c b j n = let e : eqb (batch_number b) 0 ≡ false = ne_eqb (batch_number b) 0 n in rw (j, e, e)
+-- a forecast is refused where the card is not sound or the batch not in order, and else it is by what remains
+pub forecast_returned :
+    (c b : List ℕ) (a : Result Outlook Refusal) (r : Refusal) → IsErrAnd a (λ x. x ≡ r) → number r ≡ forecast_number c b → forecast_of a ≡ forecast c b
+unfolding forecast
+forecast_returned c b a r h e =
+    let p = err_from_is_err_and a h in
+    let q : a ≡ Err r = p.1 ∙ ap Err p.2 in
+    rw (q, ne_eqb (forecast_number c b) 0 (λ z. omega (arith, number_positive r))) (ap Refused e)
 
 pub forecast_sound : (c b : List ℕ) → judged c ≡ 0 → batch_number b ≡ 0 → forecast c b ≡ outlook c (remains c b)
 unfolding forecast forecast_number first_of

@@ -22,6 +22,5 @@ pub mod Spent
 pub mod Steps
 pub mod Sweeping
 pub mod Tallying
-pub mod Values
 pub mod Writes
 pub mod Copying

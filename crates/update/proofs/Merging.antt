@@ -7,6 +7,7 @@ use mathlib.Core.List.{List, [], ◌∷◌}
 use lib.ListN.{length, drop, get_or}
 use lib.Seq.{drop-drop}
 use lib.Dec.{eqb}
+use Rattle.std.specs.Option.{unwrap_or}
 use borrow.Author.Tests.{eqb-true, eq-eqb, ne_eqb}
 use Rattle.pair.specs.Rising.{above}
 use Rattle.pair.proofs.Rising.{rises, rises_from}
@@ -54,13 +55,13 @@ pub record Turn (c b : List ℕ) (m : Merge) (q : OldCursor) (a : Addition) (x :
   pub in_order : batch_number b ≡ 0
   pub skipped : Skipped c m.old m.rank q
   pub addition : a ≡ next_addition b m.addition m.rank
-  pub pair : x ≡ lesser a.rank q.rank
+  pub pair : x ≡ lesser (unwrap_or a.rank 0) q.rank
 
 module _ {c b : List ℕ} {m : Merge} {q : OldCursor} {a : Addition} {x : ℕ} (g : Merges c b m) (t : Turn c b m q a x) where
   old_first : first_above m.rank (live c) ≡ q.rank
   old_first = unfold first_above in ap (λ l. get_or l 0 0) (g.olds ∙ sym t.skipped.next) ∙ first_pending c q
 
-  added_first : least_added m.rank (updates b) ≡ a.rank
+  added_first : least_added m.rank (updates b) ≡ unwrap_or a.rank 0
   unfolding next_addition
   added_first =
       let us = drop m.addition (updates b) in

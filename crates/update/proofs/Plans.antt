@@ -21,12 +21,18 @@ use Rattle.card.proofs.Facts.{Facts}
 use Rattle.card.proofs.Ordered.{shaped, place_on_law}
 use Rattle.pair.proofs.Lists.{part_sets_same}
 use Rattle.card.proofs.Parts.{place_inside, entry_inside, width_low}
-use Rattle.update.specs.declared.StepAnswer.TheVariants as answer
+use Rattle.std.proofs.Common.{Result, Ok, Err}
+use Rattle.refusal.specs.declared.Refusal.{Refusal}
+use Rattle.refusal.specs.declared.Refusal.TheVariants.{Crowded}
+use Rattle.update.specs.declared.Written.TheVariants as written
 use Rattle.update.specs.declared.due.Due.{Due}
-use Rattle.update.specs.Answer.{answer_of}
-use Rattle.update.specs.Step.{spent, configured, next_boundary, freed, grown, configuration, due_block, due_entry, next_write, the_write, crowded, taken, refused}
+use Rattle.update.specs.Step.{spent, configured, next_boundary, freed, grown, configuration, due_block, due_entry, next_write, the_write, crowded, taken, refused, remains, step}
 use Rattle.update.specs.code.Due.{Answers}
-use Rattle.update.specs.code.Plan.{Freed, followed, settling, step_with, PlanOf}
+use Rattle.update.specs.code.Plan.{Freed, followed, settling, step_with, PlanOf, Planned}
+use Rattle.batch.specs.Batch.{batch_number}
+use Rattle.card.specs.Sound.{judged}
+use Rattle.update.specs.declared.WritePlan.{WritePlan}
+use Rattle.update.proofs.Steps.{step_sound}
 use Rattle.update.proofs.Grown.{due_first}
 use Rattle.update.proofs.Spent.{spent_length}
 use Rattle.update.proofs.Writes.{length_due_block_law, next_write_law, due_inside}
@@ -82,21 +88,21 @@ module _ {c : List ℕ} {k : Configuration} {r ws : List ℕ} {d : Due} {n : ℕ
 
   -- the plan of the configuration write
   pub plan_settled : (g : ℕ) → g ≡ grown c r → crowded c r ≡ false → next_write c r ≡ 3 → (es : List ℕ) → length es ≡ block_size c →
-      PlanOf c (step_with c r) (put es (followed k d n g)) (settling d n)
-  unfolding step_with taken the_write answer_of put
+      PlanOf c (step_with c r) (put es (followed k d n g)) (Ok (settling d n))
+  unfolding step_with taken the_write put
   plan_settled g e free next es l =
       let q = followed k d n g in
       let ws = configuration_list q.format q.size q.places q.old_start q.old_length q.new_length q.boundary in
       rw (free, next)
       (record {
-        answer = rw (is_freed, a.beyond);
+        answer = record { number = refl; write = refl; freed = is_freed; finished = rw a.beyond };
         start = refl;
         words = rw (le-ltb (length es) 8 (omega (arith, f.size_low))) (part_sets_same ws es 0 (omega (arith, f.size_low)) ∙ followed_words g e);
         inside = omega (arith, f.long);
       })
 
   -- where nothing remains
-  pub plan_none : d.used ≡ 0 → (es : List ℕ) → length es ≡ block_size c → (g : ℕ) → g ≡ length_of_new c → PlanOf c (step_with c r) (put es (followed k d n g)) (settling d n)
+  pub plan_none : d.used ≡ 0 → (es : List ℕ) → length es ≡ block_size c → (g : ℕ) → g ≡ length_of_new c → PlanOf c (step_with c r) (put es (followed k d n g)) (Ok (settling d n))
   unfolding grown crowded
   plan_none h es l g e =
       let z : eqb (length r) 0 ≡ true = sym a.empty ∙ eq-eqb d.used 0 h in
@@ -123,11 +129,11 @@ module _ {c : List ℕ} {k : Configuration} {r ws : List ℕ} {d : Due} {n : ℕ
 
     -- where no place would be left
     pub plan_crowded : (es : List ℕ) → place_count c ≤ length_of_old c - n + (length_of_new c + 1) →
-        PlanOf c (step_with c r) es (record { start = 0; count = 0; answer = answer.Refused 8 })
-    unfolding step_with refused answer_of
+        PlanOf c (step_with c r) es (Err Crowded)
+    unfolding step_with refused
     plan_crowded es l =
         rw (crowds ∙ le-leb (place_count c) (length_of_old c - n + (length_of_new c + 1)) l)
-        (record { answer = refl; start = refl; words = refl; inside = omega arith })
+        refl
 
     module _ (l : length_of_old c - n + (length_of_new c + 1) < place_count c) where
       free : crowded c r ≡ false
@@ -135,13 +141,13 @@ module _ {c : List ℕ} {k : Configuration} {r ws : List ℕ} {d : Due} {n : ℕ
 
       -- where the due place holds other words
       pub plan_block : same (place c (due_place c)) ws ≡ false →
-          PlanOf c (step_with c r) ws (record { start = place_at c (due_place c); count = length ws; answer = answer.Block })
-      unfolding step_with taken the_write answer_of
+          PlanOf c (step_with c r) ws (Ok (record { start = place_at c (due_place c); count = length ws; written = written.Block }))
+      unfolding step_with taken the_write
       plan_block e =
           let long : length ws ≡ block_size c = ap length a.block ∙ length_due_block_law c r in
           rw (free, next_write_law c r, some, ← a.block, e)
           (record {
-            answer = refl;
+            answer = record { number = refl; write = refl; freed = refl; finished = refl };
             start = refl;
             words = take-length ws;
             inside = rw long (place_inside c (due_place c) (shaped f) (due_inside c f));
@@ -163,13 +169,13 @@ module _ {c : List ℕ} {k : Configuration} {r ws : List ℕ} {d : Due} {n : ℕ
 
         -- where the map entry holds other words
         pub plan_entry : same (entry c (due_place c)) (take 2 es) ≡ false →
-            PlanOf c (step_with c r) es (record { start = entry_at c (due_place c); count = 2; answer = answer.MapEntry })
-        unfolding step_with taken the_write answer_of
+            PlanOf c (step_with c r) es (Ok (record { start = entry_at c (due_place c); count = 2; written = written.MapEntry }))
+        unfolding step_with taken the_write
         plan_entry t =
             let g : same (entry c (due_place c)) (due_entry r) ≡ false = rw entry_words at t in
             rw (free, next_write_law c r, some, ← a.block, e, g)
             (record {
-              answer = refl;
+              answer = record { number = refl; write = refl; freed = refl; finished = refl };
               start = refl;
               words = entry_words;
               inside = omega (arith, width_low (format c), entry_inside c (due_place c) (shaped f) (due_inside c f));
@@ -177,7 +183,12 @@ module _ {c : List ℕ} {k : Configuration} {r ws : List ℕ} {d : Due} {n : ℕ
 
         -- and where both stand
         pub plan_done : same (entry c (due_place c)) (take 2 es) ≡ true → (g : ℕ) → g ≡ length_of_new c + 1 → length es ≡ block_size c →
-            PlanOf c (step_with c r) (put es (followed k d n g)) (settling d n)
+            PlanOf c (step_with c r) (put es (followed k d n g)) (Ok (settling d n))
         plan_done t g i l =
             let u : same (entry c (due_place c)) (due_entry r) ≡ true = rw entry_words at t in
             plan_settled g (i ∙ grown_some) free (next_write_law c r ∙ rw (some, ← a.block, e, u)) es l
+
+-- what is planned on a sound card with a batch in order is its step
+pub plan_step : (c b : List ℕ) → judged c ≡ 0 → batch_number b ≡ 0 → {before ws : List ℕ} {d : Due} {p : Result WritePlan Refusal} →
+    Planned c before d ws p → Answers c (remains c b) before d → Each Proper (remains c b) → PlanOf c (step c b) ws p
+plan_step c b j e g a p = rw (step_sound c b j e) (g.of (remains c b) p a)

@@ -1,35 +1,45 @@
--- A step's answer: which of its cases, and the paper's number and values for each.
-use Rattle.std.specs.Prelude.{ℕ, Bool, false, cond, not, eqb}
-use Rattle.update.specs.declared.StepAnswer.{StepAnswer}
-use Rattle.update.specs.declared.StepAnswer.TheVariants.{Refused, Block, MapEntry, Configuration}
+-- A step's answer: the paper's values for each write and each refusal.
+use Rattle.std.specs.Prelude.{ℕ, ◌≡◌, Bool, false, Result, Ok, Err}
+use Rattle.refusal.specs.declared.Refusal.{Refusal}
+use Rattle.refusal.specs.Refusal.{number_of}
+use Rattle.update.specs.declared.Written.{Written}
+use Rattle.update.specs.declared.Written.TheVariants.{Block, MapEntry, Configuration}
 use Rattle.update.specs.Step.{Step}
 
-abbrev pub number_of : StepAnswer → ℕ
-number_of (Refused n) = n
-number_of Block = 0
-number_of MapEntry = 0
-number_of (Configuration f d) = 0
+-- which of the three writes it is
+abbrev pub write_number : Written → ℕ
+write_number Block = 1
+write_number MapEntry = 2
+write_number (Configuration f d) = 3
 
-abbrev pub write_of : StepAnswer → ℕ
-write_of (Refused n) = 0
-write_of Block = 1
-write_of MapEntry = 2
-write_of (Configuration f d) = 3
+-- how many old places it frees
+abbrev pub freed_by : Written → ℕ
+freed_by Block = 0
+freed_by MapEntry = 0
+freed_by (Configuration f d) = f
 
-abbrev pub freed_of : StepAnswer → ℕ
-freed_of (Refused n) = 0
-freed_of Block = 0
-freed_of MapEntry = 0
-freed_of (Configuration f d) = f
+-- it finishes the pass
+abbrev pub finished_by : Written → Bool
+finished_by Block = false
+finished_by MapEntry = false
+finished_by (Configuration f d) = d
 
-abbrev pub finished_of : StepAnswer → Bool
-finished_of (Refused n) = false
-finished_of Block = false
-finished_of MapEntry = false
-finished_of (Configuration f d) = d
+-- the same of an answer: a refusal wrote nothing
+abbrev pub write_of : Result Written Refusal → ℕ
+write_of (Ok w) = write_number w
+write_of (Err r) = 0
 
--- what a step answers: the refusal's number, or else its write
-unfoldable pub answer_of : Step → StepAnswer
-answer_of s =
-    cond (not (eqb s.number 0)) (Refused s.number)
-    (cond (eqb s.write 1) Block (cond (eqb s.write 2) MapEntry (Configuration s.freed s.finished)))
+abbrev pub freed_of : Result Written Refusal → ℕ
+freed_of (Ok w) = freed_by w
+freed_of (Err r) = 0
+
+abbrev pub finished_of : Result Written Refusal → Bool
+finished_of (Ok w) = finished_by w
+finished_of (Err r) = false
+
+-- it is the answer of a step
+pub record IsAnswer (s : Step) (a : Result Written Refusal) : Type 0 where
+  pub number : number_of a ≡ s.number
+  pub write : write_of a ≡ s.write
+  pub freed : freed_of a ≡ s.freed
+  pub finished : finished_of a ≡ s.finished

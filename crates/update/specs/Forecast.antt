@@ -1,14 +1,32 @@
 -- Will it fit: what an uncut run of a batch comes to, told from card and batch.
-use Rattle.std.specs.Prelude.{ℕ, zero, suc, max, ◌+◌, ◌-◌, ◌≤◌, ◌<◌, ◌≡◌, Bool, true, false, cond, not, List, [], ◌∷◌, drop, leb, eqb}
+use Rattle.std.specs.Prelude.{ℕ, zero, suc, max, ◌+◌, ◌-◌, ◌≤◌, ◌<◌, ◌≡◌, Bool, true, false, cond, not, Result, Ok, Err, List, [], ◌∷◌, drop, leb, eqb}
 use Rattle.pair.specs.Tests.{first_of}
 use Rattle.block.specs.Block.{fitting}
 use Rattle.card.specs.Layout.{block_size, place_count, length_of_old, length_of_new}
 use Rattle.card.specs.Sound.{judged}
 use Rattle.batch.specs.Batch.{batch_number}
-use Rattle.update.specs.declared.forecast.ForecastAnswer.{ForecastAnswer}
-use Rattle.update.specs.declared.forecast.ForecastAnswer.TheVariants.{Refused, Finishes, Stops}
+use Rattle.refusal.specs.declared.Refusal.{Refusal}
+use Rattle.refusal.specs.Refusal.{number}
+use Rattle.update.specs.declared.forecast.Outlook.{Outlook}
+use Rattle.update.specs.declared.forecast.Outlook.TheVariants as code
 use Rattle.update.specs.Step.{remains, freed, step}
 use Rattle.update.specs.Pass.{blocks, limit_for, step_limit, Run, configurations, uncut}
+
+-- what a forecast says: the number of a refusal, or how many blocks what remains fills and the step limit, where the pass finishes; where it stops
+-- with number 8, also after how many configuration writes
+pub data ForecastAnswer : Type 0 where
+  Refused : ℕ → ForecastAnswer
+  Finishes : ℕ → ℕ → ForecastAnswer
+  Stops : ℕ → ℕ → ℕ → ForecastAnswer
+
+-- what the code answers says one of these
+abbrev pub told_by : Outlook → ForecastAnswer
+told_by (code.Finishes g l) = Finishes g l
+told_by (code.Stops g l w) = Stops g l w
+
+abbrev pub forecast_of : Result Outlook Refusal → ForecastAnswer
+forecast_of (Ok o) = told_by o
+forecast_of (Err r) = Refused (number r)
 
 -- the paper's values for each case
 abbrev pub number_of : ForecastAnswer → ℕ

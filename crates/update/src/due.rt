@@ -1,9 +1,12 @@
 // The due block: what remains is put into it, one pair after the other, until the next pair has no room.
 ghost use Rattle.std.specs.Prelude.{◌≡◌, replicate};
+ghost use Rattle.pair.specs.Rank.{Proper};
+ghost use Rattle.pair.specs.Rising.{Each};
 ghost use Rattle.card.specs.Layout.{block_size};
 ghost use Rattle.card.specs.Sound.{judged};
 ghost use Rattle.batch.specs.Batch.{updates, batch_number};
 ghost use Rattle.batch.specs.code.Rounds.{round_reaches};
+ghost use Rattle.update.specs.Step.{remains};
 ghost use Rattle.update.specs.code.Due.{DueOf};
 
 use crate::merge;
@@ -36,7 +39,8 @@ pub(crate) fn fill(card: &[u32], batch: &[u32], reaches: &[u32], words: &mut [u3
     requires batch_value { batch_number batch.now ≡ 0 }
     requires reaches_value { reaches.now ≡ round_reaches (updates batch.now) }
     requires words_value { words.old ≡ replicate (block_size card.now) 0 }
-    ensures { DueOf card.now batch.now words.new result }
+    ensures due { DueOf card.now batch.now words.new result }
+    ensures pairs { Each Proper (remains card.now batch.now) }
 {
     let mut place = merge::start(card);
     let mut packing = pack::EMPTY;

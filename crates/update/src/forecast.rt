@@ -8,17 +8,18 @@ ghost use Rattle.batch.specs.Batch.{updates, batch_number};
 ghost use Rattle.batch.specs.code.Rounds.{round_reaches};
 ghost use Rattle.update.specs.Step.{remains};
 ghost use Rattle.update.specs.Pass.{limit_for};
-ghost use Rattle.update.specs.Forecast.{number_of, blocks_of, limit_of, finishes_of, writes_of, foreseen, outlook, forecast};
+ghost use Rattle.update.specs.Forecast.{told_by, forecast_of, blocks_of, limit_of, finishes_of, writes_of, foreseen, outlook, forecast};
 ghost use Rattle.update.specs.code.Merge.{Merges, run_at};
 ghost use Rattle.update.specs.code.Old.{Spends};
 ghost use Rattle.update.specs.code.Tally.{blocks_most, counted, Closed, Addable, Added, Packs, PacksOn, PackedAll};
 
 use crate::merge::Merge;
 use crate::old::{Spent, UNSPENT};
-use crate::{merge, old};
+use crate::{check, merge, old};
 use batch::{RECORDS_MOST, rounds};
 use card::layout::Configuration;
 use pair::Pair;
+use refusal::Refusal;
 use wanted::reads_on;
 
 // The words of an entry of one position, and the most steps for a block.
@@ -26,11 +27,10 @@ const ENTRY_WORDS: usize = 3;
 
 const STEPS_PER_BLOCK: u32 = 3;
 
-// What a forecast answers: the number of a refusal, or how many blocks what remains fills and the step limit, with whether the pass finishes or after
-// how many configuration writes it stops with number 8.
-#[derive(Clone, Copy)]
-pub enum ForecastAnswer {
-    Refused(u32),
+// What an uncut run comes to: how many blocks what remains fills and the step limit, where the pass finishes; where it stops because a configuration
+// write would leave no place free, also after how many configuration writes.
+#[derive(Clone, Copy, Debug, PartialEq, Eq)]
+pub enum Outlook {
     Finishes {
         blocks: u32,
         limit: u32,
@@ -42,87 +42,42 @@ pub enum ForecastAnswer {
     },
 }
 
-// The answer in the paper's numbers: the refusal's number, 0 for none.
-pub fn number_of(answer: ForecastAnswer) -> u32
-    ensures { result ≡ number_of answer }
-{
-    match answer {
-        ForecastAnswer::Refused(number) => number,
-        ForecastAnswer::Finishes {
-            blocks: _,
-            limit: _,
-        } => 0,
-        ForecastAnswer::Stops {
-            blocks: _,
-            limit: _,
-            writes: _,
-        } => 0,
+impl Outlook {
+    // How many blocks what remains fills.
+    pub fn blocks(self) -> u32
+        ensures { result ≡ blocks_of (told_by self) }
+    {
+        match self {
+            Outlook::Finishes { blocks, .. } => blocks,
+            Outlook::Stops { blocks, .. } => blocks,
+        }
     }
-}
 
-// How many blocks what remains fills.
-pub fn blocks_of(answer: ForecastAnswer) -> u32
-    ensures { result ≡ blocks_of answer }
-{
-    match answer {
-        ForecastAnswer::Refused(_) => 0,
-        ForecastAnswer::Finishes { blocks, limit: _ } => blocks,
-        ForecastAnswer::Stops {
-            blocks,
-            limit: _,
-            writes: _,
-        } => blocks,
+    // The step limit.
+    pub fn limit(self) -> u32
+        ensures { result ≡ limit_of (told_by self) }
+    {
+        match self {
+            Outlook::Finishes { limit, .. } => limit,
+            Outlook::Stops { limit, .. } => limit,
+        }
     }
-}
 
-// The step limit.
-pub fn limit_of(answer: ForecastAnswer) -> u32
-    ensures { result ≡ limit_of answer }
-{
-    match answer {
-        ForecastAnswer::Refused(_) => 0,
-        ForecastAnswer::Finishes { blocks: _, limit } => limit,
-        ForecastAnswer::Stops {
-            blocks: _,
-            limit,
-            writes: _,
-        } => limit,
+    // Whether the pass finishes.
+    pub fn is_finishing(self) -> bool
+        ensures { result ≡ finishes_of (told_by self) }
+    {
+        matches!(self, Outlook::Finishes { .. })
     }
-}
 
-// Whether the pass finishes.
-pub fn finishes_of(answer: ForecastAnswer) -> bool
-    ensures { result ≡ finishes_of answer }
-{
-    match answer {
-        ForecastAnswer::Refused(_) => false,
-        ForecastAnswer::Finishes {
-            blocks: _,
-            limit: _,
-        } => true,
-        ForecastAnswer::Stops {
-            blocks: _,
-            limit: _,
-            writes: _,
-        } => false,
-    }
-}
-
-// How many configuration writes are made before number 8, 0 where the pass finishes.
-pub fn writes_of(answer: ForecastAnswer) -> u32
-    ensures { result ≡ writes_of answer }
-{
-    match answer {
-        ForecastAnswer::Refused(_) => 0,
-        ForecastAnswer::Finishes {
-            blocks: _,
-            limit: _,
-        } => 0,
-        ForecastAnswer::Stops {
-            blocks: _,
-            limit: _,
-            writes,
-        } => writes,
+    // How many configuration writes are made before number 8, 0 where the pass finishes.
+    pub fn writes(self) -> u32
+        ensures { result ≡ writes_of (told_by self) }
+    {
+        match self {
+            Outlook::Finishes { .. } => 0,
+            Outlook::Stops { writes, .. } => writes,
+        }
     }
 }
 
@@ -349,17 +304,17 @@ fn step_limit(blocks: u32) -> u32
 }
 
 // The answer where all blocks are counted.
-fn answer(tally: Tally) -> ForecastAnswer
+fn answer(tally: Tally) -> Outlook
     requires { tally.blocks ≤ blocks_most + 1 }
-    ensures { result ≡ foreseen tally.blocks (limit_for tally.blocks) tally.free }
+    ensures { told_by result ≡ foreseen tally.blocks (limit_for tally.blocks) tally.free }
 {
     let blocks = tally.blocks;
     let free = tally.free;
     let limit = step_limit(blocks);
     if free == blocks {
-        return ForecastAnswer::Finishes { blocks, limit };
+        return Outlook::Finishes { blocks, limit };
     }
-    ForecastAnswer::Stops {
+    Outlook::Stops {
         blocks,
         limit,
         writes: free,
@@ -367,11 +322,11 @@ fn answer(tally: Tally) -> ForecastAnswer
 }
 
 // What the run comes to, on a sound card with a batch in order, with where the batch's rounds reach to.
-fn look_ahead(card: &[u32], batch: &[u32], reaches: &[u32]) -> ForecastAnswer
+fn look_ahead(card: &[u32], batch: &[u32], reaches: &[u32]) -> Outlook
     requires card_value { judged card.now ≡ 0 }
     requires batch_value { batch_number batch.now ≡ 0 }
     requires reaches_value { reaches.now ≡ round_reaches (updates batch.now) }
-    ensures { result ≡ outlook card.now (remains card.now batch.now) }
+    ensures { told_by result ≡ outlook card.now (remains card.now batch.now) }
 {
     let filling = pack_all(card, batch, reaches);
     let last = filling.last;
@@ -384,22 +339,15 @@ fn look_ahead(card: &[u32], batch: &[u32], reaches: &[u32]) -> ForecastAnswer
 }
 
 // What an uncut run of a batch comes to on a card. A table of where the rounds reach to is made only where there are some.
-pub fn forecast(card: &[u32], batch: &[u32]) -> ForecastAnswer
-    ensures { result ≡ forecast card.now batch.now }
+pub fn forecast(card: &[u32], batch: &[u32]) -> Result<Outlook, Refusal>
+    ensures { forecast_of result ≡ forecast card.now batch.now }
 {
-    let judged = judge::judge(card);
-    if judged != 0 {
-        return ForecastAnswer::Refused(judged);
-    }
-    let number = batch::batch_number(batch);
-    if number != 0 {
-        return ForecastAnswer::Refused(number);
-    }
+    check(card, batch)?;
     let mut first = [0u32; 1];
     if rounds::fill_reaches(batch, &mut first) == 0 {
-        return look_ahead(card, batch, &first[..0]);
+        return Ok(look_ahead(card, batch, &first[..0]));
     }
     let mut reaches = [0u32; RECORDS_MOST];
     let count = rounds::fill_reaches(batch, &mut reaches);
-    look_ahead(card, batch, &reaches[..count])
+    Ok(look_ahead(card, batch, &reaches[..count]))
 }

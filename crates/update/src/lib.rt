@@ -2,8 +2,9 @@
 
 #![tactic(auto)]
 
-ghost use Rattle.std.specs.Prelude.{◌≡◌, ◌+◌, ◌≤◌, length, replicate};
+ghost use Rattle.std.specs.Prelude.{◌≡◌, ◌+◌, ◌≤◌, length, replicate, OnOk};
 ghost use Rattle.std.proofs.lemmas.List.Edits.{sets};
+ghost use Rattle.refusal.specs.Refusal.{number_of};
 ghost use Rattle.pair.specs.Tests.{same};
 ghost use Rattle.card.specs.Layout.{block_size};
 ghost use Rattle.card.specs.Sound.{judged};
@@ -11,7 +12,8 @@ ghost use Rattle.card.specs.code.Configuration.{put, Ordered};
 ghost use Rattle.batch.specs.Batch.{updates, batch_number};
 ghost use Rattle.batch.specs.code.Rounds.{round_reaches};
 ghost use Rattle.update.specs.Step.{step};
-ghost use Rattle.update.specs.Answer.{number_of, write_of, freed_of, finished_of, answer_of};
+ghost use Rattle.update.specs.Answer.{write_number, freed_by, finished_by, IsAnswer};
+ghost use Rattle.update.specs.Forecast.{forecast_number};
 ghost use Rattle.update.specs.code.Plan.{Freed, followed, settling, Planned};
 
 use batch::{RECORDS_MOST, rounds};
@@ -19,6 +21,7 @@ use card::layout;
 use card::layout::{CONFIGURATION_WORDS, Configuration};
 use due::Due;
 use pack::WORDS_MOST;
+use refusal::Refusal;
 
 mod due;
 pub mod forecast;
@@ -28,70 +31,45 @@ mod old;
 // The words of a pair.
 const PAIR_WORDS: usize = 2;
 
-// The number of a step whose configuration write would leave no place free.
-const CROWDED: u32 = 8;
-
-// What a step answers: the number of a refusal, or the write it made; of a configuration write also how many old places it freed
-// and whether the pass finished.
-#[derive(Clone, Copy)]
-pub enum StepAnswer {
-    Refused(u32),
+// The write that a step made: the due block, its map entry, or the configuration words, with how many old places they free and whether the pass
+// finishes with them.
+#[derive(Clone, Copy, Debug, PartialEq, Eq)]
+pub enum Written {
     Block,
     MapEntry,
     Configuration { freed: u32, finished: bool },
 }
 
-// The answer in the paper's numbers: the refusal's number, 0 for none.
-pub fn number_of(answer: StepAnswer) -> u32
-    ensures { result ≡ number_of answer }
-{
-    match answer {
-        StepAnswer::Refused(number) => number,
-        StepAnswer::Block => 0,
-        StepAnswer::MapEntry => 0,
-        StepAnswer::Configuration {
-            freed: _,
-            finished: _,
-        } => 0,
+impl Written {
+    // Which of the three writes it is: 1, 2 or 3.
+    pub fn number(self) -> u32
+        ensures { result ≡ write_number self }
+    {
+        match self {
+            Written::Block => 1,
+            Written::MapEntry => 2,
+            Written::Configuration { .. } => 3,
+        }
     }
-}
 
-// Which of the three writes was made, 0 for none.
-pub fn write_of(answer: StepAnswer) -> u32
-    ensures { result ≡ write_of answer }
-{
-    match answer {
-        StepAnswer::Refused(_) => 0,
-        StepAnswer::Block => 1,
-        StepAnswer::MapEntry => 2,
-        StepAnswer::Configuration {
-            freed: _,
-            finished: _,
-        } => 3,
+    // How many old places it frees.
+    pub fn freed(self) -> u32
+        ensures { result ≡ freed_by self }
+    {
+        match self {
+            Written::Configuration { freed, .. } => freed,
+            _ => 0,
+        }
     }
-}
 
-// How many old places were freed.
-pub fn freed_of(answer: StepAnswer) -> u32
-    ensures { result ≡ freed_of answer }
-{
-    match answer {
-        StepAnswer::Refused(_) => 0,
-        StepAnswer::Block => 0,
-        StepAnswer::MapEntry => 0,
-        StepAnswer::Configuration { freed, finished: _ } => freed,
-    }
-}
-
-// Whether the pass finished.
-pub fn finished_of(answer: StepAnswer) -> bool
-    ensures { result ≡ finished_of answer }
-{
-    match answer {
-        StepAnswer::Refused(_) => false,
-        StepAnswer::Block => false,
-        StepAnswer::MapEntry => false,
-        StepAnswer::Configuration { freed: _, finished } => finished,
+    // Whether the pass finishes with it.
+    pub fn is_finished(self) -> bool
+        ensures { result ≡ finished_by self }
+    {
+        match self {
+            Written::Configuration { finished, .. } => finished,
+            _ => false,
+        }
     }
 }
 
@@ -167,12 +145,12 @@ fn following(k: Configuration, due: Due, freed: u16, grown: u16) -> Configuratio
     }
 }
 
-// A write: where in the card it stands and how many words it has, and the answer that names it.
+// A write: where in the card it stands and how many words it has.
 #[derive(Clone, Copy)]
 struct WritePlan {
     start: usize,
     count: usize,
-    answer: StepAnswer,
+    written: Written,
 }
 
 // Plans the configuration write.
@@ -186,7 +164,7 @@ fn settle(words: &mut [u32], k: Configuration, due: Due, freed: u16, grown: u16)
     WritePlan {
         start: 0,
         count: CONFIGURATION_WORDS,
-        answer: StepAnswer::Configuration {
+        written: Written::Configuration {
             freed: freed as u32,
             finished,
         },
@@ -194,7 +172,7 @@ fn settle(words: &mut [u32], k: Configuration, due: Due, freed: u16, grown: u16)
 }
 
 // Plans the next write for a due block, whose words become the write's, or refuses.
-fn plan(card: &[u32], words: &mut [u32], due: Due) -> WritePlan
+fn plan(card: &[u32], words: &mut [u32], due: Due) -> Result<WritePlan, Refusal>
     requires card_value { judged card.now ≡ 0 }
     requires words_len { length words.old ≡ block_size card.now }
     ensures { Planned card.now words.old due words.new result }
@@ -202,57 +180,58 @@ fn plan(card: &[u32], words: &mut [u32], due: Due) -> WritePlan
     let k = Configuration::of(card);
     let freed = freed(card, k, due);
     if due.used == 0 {
-        return settle(words, k, due, freed, k.new_length);
+        return Ok(settle(words, k, due, freed, k.new_length));
     }
     let grown = k.new_length + 1;
     if k.places <= k.old_length - freed + grown {
-        return WritePlan {
-            start: 0,
-            count: 0,
-            answer: StepAnswer::Refused(CROWDED),
-        };
+        return Err(Refusal::Crowded);
     }
     let place = k.due_place();
     if !same(layout::place(card, place), words) {
-        return WritePlan {
+        return Ok(WritePlan {
             start: layout::place_start(card, place),
             count: words.len(),
-            answer: StepAnswer::Block,
-        };
+            written: Written::Block,
+        });
     }
     words[1] = words[2]; // the first pair: its term, and its position after the entry's count
     if !same(layout::entry(card, place), &words[..PAIR_WORDS]) {
-        return WritePlan {
+        return Ok(WritePlan {
             start: layout::entry_start(card, place),
             count: PAIR_WORDS,
-            answer: StepAnswer::MapEntry,
-        };
+            written: Written::MapEntry,
+        });
     }
-    settle(words, k, due, freed, grown)
+    Ok(settle(words, k, due, freed, grown))
 }
 
 // Makes the next write of a sound card with a batch in order, in as many words of room as a block has, with where the batch's rounds reach to.
-fn advance_with(card: &mut [u32], batch: &[u32], reaches: &[u32], words: &mut [u32]) -> StepAnswer
+fn advance_with(
+    card: &mut [u32],
+    batch: &[u32],
+    reaches: &[u32],
+    words: &mut [u32],
+) -> Result<Written, Refusal>
     requires card_value { judged card.old ≡ 0 }
     requires batch_value { batch_number batch.now ≡ 0 }
     requires reaches_value { reaches.now ≡ round_reaches (updates batch.now) }
     requires words_value { words.old ≡ replicate (block_size card.old) 0 }
-    ensures { (result ≡ answer_of (step card.old batch.now)) × (card.new ≡ (step card.old batch.now).card) }
+    ensures answer { IsAnswer (step card.old batch.now) result }
+    ensures card { card.new ≡ (step card.old batch.now).card }
 {
     let due = due::fill(card, batch, reaches, words);
-    let plan = plan(card, words, due);
-    let start = plan.start;
-    let count = plan.count;
-    write(card, start, &words[..count]);
-    plan.answer
+    let plan = plan(card, words, due)?;
+    write(card, plan.start, &words[..plan.count]);
+    Ok(plan.written)
 }
 
 // The same, and works out where the rounds reach to; a table for them is made only where there are some.
-fn advance(card: &mut [u32], batch: &[u32], words: &mut [u32]) -> StepAnswer
+fn advance(card: &mut [u32], batch: &[u32], words: &mut [u32]) -> Result<Written, Refusal>
     requires card_value { judged card.old ≡ 0 }
     requires batch_value { batch_number batch.now ≡ 0 }
     requires words_value { words.old ≡ replicate (block_size card.old) 0 }
-    ensures { (result ≡ answer_of (step card.old batch.now)) × (card.new ≡ (step card.old batch.now).card) }
+    ensures answer { IsAnswer (step card.old batch.now) result }
+    ensures card { card.new ≡ (step card.old batch.now).card }
 {
     let mut first = [0u32; 1];
     if rounds::fill_reaches(batch, &mut first) == 0 {
@@ -263,18 +242,22 @@ fn advance(card: &mut [u32], batch: &[u32], words: &mut [u32]) -> StepAnswer
     advance_with(card, batch, &reaches[..count], words)
 }
 
-// One step of a pass over a card with a batch.
-pub fn step(card: &mut [u32], batch: &[u32]) -> StepAnswer
-    ensures { (result ≡ answer_of (step card.old batch.now)) × (card.new ≡ (step card.old batch.now).card) }
+// Refuses a card that is not sound, and a batch that is not in order.
+fn check(card: &[u32], batch: &[u32]) -> Result<(), Refusal>
+    ensures number { number_of result ≡ forecast_number card.now batch.now }
+    ensures sound { OnOk result (judged card.now ≡ 0) }
+    ensures in_order { OnOk result (batch_number batch.now ≡ 0) }
 {
-    let judged = judge::judge(card);
-    if judged != 0 {
-        return StepAnswer::Refused(judged);
-    }
-    let number = batch::batch_number(batch);
-    if number != 0 {
-        return StepAnswer::Refused(number);
-    }
+    judge::judge(card)?;
+    batch::check(batch)
+}
+
+// One step of a pass over a card with a batch.
+pub fn step(card: &mut [u32], batch: &[u32]) -> Result<Written, Refusal>
+    ensures answer { IsAnswer (step card.old batch.now) result }
+    ensures card { card.new ≡ (step card.old batch.now).card }
+{
+    check(card, batch)?;
     let k = Configuration::of(card);
     let size = k.size as usize;
     let mut buffer = [0u32; WORDS_MOST];

@@ -68,7 +68,7 @@ pub(crate) fn next(card: &[u32], batch: &[u32], reaches: &[u32], merge: Merge) -
         old = old::skip(card, old, rank);
         let added = batch::next_addition(batch, addition, rank);
         addition = added.at;
-        rank = lesser(added.rank, old.rank);
+        rank = lesser(added.rank.unwrap_or(0), old.rank);
         if rank == 0 {
             return Merge {
                 rank,

@@ -1,32 +1,35 @@
 -- `update::advance_with` meets its contract: the planned write is the step's, and the card is left with it made.
-use native.Mathlib.Omega.{arith}
-use mathlib.Core.Path.{sym, ◌∙◌}
+use Prim.Native.Nat.{◌≤◌}
+use mathlib.Core.Path.{◌≡◌, sym, ap, ◌∙◌}
+use lib.ListN.{length}
 use lib.Seq.{length-take-le}
-use Rattle.pair.specs.Rank.{Words}
-use Rattle.card.proofs.Facts.{facts}
-use Rattle.update.specs.Step.{remains, step}
-use Rattle.update.specs.code.Plan.{PlanOf}
-use Rattle.update.proofs.Next.{remaining}
-use Rattle.update.proofs.Steps.{step_sound, step_writes}
+use Rattle.update.specs.Step.{Step, refused}
+use Rattle.update.proofs.Steps.{step_writes, answers_returned}
+use Rattle.update.proofs.Plans.{plan_step}
 use Rattle.update.proofs.advance_with.Goals as goal
 
-pub write-requires : goal.write-requires
-unfolding Words
-write-requires c =
-    let planned : PlanOf c.args.card.now (step c.args.card.now c.args.batch.now) c.plan-plan.new.words c.plan-plan.result =
-    let w = c.args.card.now in
-    let b = c.args.batch.now in
-    let m = remaining w b (facts w c.requires.card_value) (λ i. omega (arith, c.slice_known-1.given i)) (λ i. omega (arith, c.shared_slice_known-1.given i)) c.requires.batch_value in
-    rw (step_sound w b c.requires.card_value c.requires.batch_value) (c.plan-plan.ensures.of (remains w b) m.proper c.fill-due.ensures) in
-    rw (length-take-le c.plan-plan.result.count c.plan-plan.new.words c.plan-plan.ensures.few) planned.inside
+pub returns-in_err-plan-clause-answer : goal.returns-in_err-plan-clause-answer
+returns-in_err-plan-clause-answer c =
+    answers_returned _ _ _ _ c.from_residual.ensures.1
+    (plan_step _ _ c.requires.card_value c.requires.batch_value c.in_err-plan.ensures c.fill-due.ensures.due c.fill-due.ensures.pairs)
 
-pub returns : goal.returns
-unfolding Words
-returns c =
-    let planned : PlanOf c.args.card.now (step c.args.card.now c.args.batch.now) c.plan-plan.new.words c.plan-plan.result =
-    let w = c.args.card.now in
-    let b = c.args.batch.now in
-    let m = remaining w b (facts w c.requires.card_value) (λ i. omega (arith, c.slice_known-1.given i)) (λ i. omega (arith, c.shared_slice_known-1.given i)) c.requires.batch_value in
-    rw (step_sound w b c.requires.card_value c.requires.batch_value) (c.plan-plan.ensures.of (remains w b) m.proper c.fill-due.ensures) in
-    let q = planned in
-    (q.answer, c.write.ensures ∙ rw (q.start, q.words) (sym (step_writes c.args.card.now c.args.batch.now)))
+pub returns-in_err-plan-clause-card : goal.returns-in_err-plan-clause-card
+unfolding refused
+returns-in_err-plan-clause-card c =
+    let s = plan_step _ _ c.requires.card_value c.requires.batch_value c.in_err-plan.ensures c.fill-due.ensures.due c.fill-due.ensures.pairs in
+    sym (ap (λ (s : Step). s.card) s)
+
+pub write-requires : goal.write-requires
+write-requires c =
+    let s = plan_step _ _ c.requires.card_value c.requires.batch_value c.in_ok-plan.ensures c.fill-due.ensures.due c.fill-due.ensures.pairs in
+    rw (length-take-le _ _ c.in_ok-plan.ensures.few) s.inside
+
+pub returns-clause-answer : goal.returns-clause-answer
+returns-clause-answer c =
+    let s = plan_step _ _ c.requires.card_value c.requires.batch_value c.in_ok-plan.ensures c.fill-due.ensures.due c.fill-due.ensures.pairs in
+    s.answer
+
+pub returns-clause-card : goal.returns-clause-card
+returns-clause-card c =
+    let s = plan_step _ _ c.requires.card_value c.requires.batch_value c.in_ok-plan.ensures c.fill-due.ensures.due c.fill-due.ensures.pairs in
+    c.write.ensures ∙ rw (s.start, s.words) (sym (step_writes _ _))

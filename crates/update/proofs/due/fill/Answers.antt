@@ -18,14 +18,21 @@ loop-place-init c =
 
 pub returns-then-place-eq0 : goal.returns-then-place-eq0
 returns-then-place-eq0 c =
-    rw c.of.ensures (fills_end c.loop-place.invariant.0 (facts _ c.requires.card_value) c.next-place.ensures c.if-place-eq0.true)
+    let rest = remaining_read _ _ c.requires.card_value c.type_inv.card c.type_inv.batch c.requires.batch_value in
+    record {
+      due = rw c.of.ensures (fills_end c.loop-place.invariant.0 (facts _ c.requires.card_value) c.next-place.ensures c.if-place-eq0.true);
+      pairs = rest.proper;
+    }
 
 pub returns-in_default : goal.returns-in_default
 returns-in_default c =
     let rest = remaining_read _ _ c.requires.card_value c.type_inv.card c.type_inv.batch c.requires.batch_value in
     let full = put_refused _ _ _ (sym c.in_default.is ∙ c.put.ensures.packing) in
-    rw (c.of-in_default.ensures, c.put.ensures.words, put_none _ _ _ full)
-    (fills_full c.loop-place.invariant.0 (facts _ c.requires.card_value) c.next-place.ensures c.if-place-eq0.false rest full)
+    record {
+      due = rw (c.of-in_default.ensures, c.put.ensures.words, put_none _ _ _ full)
+          (fills_full c.loop-place.invariant.0 (facts _ c.requires.card_value) c.next-place.ensures c.if-place-eq0.false rest full);
+      pairs = rest.proper;
+    }
 
 pub loop-place-preserved : goal.loop-place-preserved
 loop-place-preserved c =

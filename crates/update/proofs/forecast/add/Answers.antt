@@ -39,7 +39,7 @@ returns-then-head-more c =
     let words : Words c.args.card.now =
     λ i. omega (arith, c.type_inv.card i) in
     let numbers : Numbers c.args.card.now c.args.size c.args.filling.last c.args.rank c.cost-head.result
-    = numbers_of c.args.card.now c.args.size c.args.filling.last c.args.rank c.cost-head.result c.requires.card_value c.requires.size_value c.cost-head.ensures in
+    = numbers_of c.args.card.now c.args.size c.args.filling.last c.args.rank c.cost-head.result c.requires.card_value c.requires.size_value c.cost-head.ensures.value in
     let highest : c.args.rank ≤ c.last_of-last.result =
     let a = c.args in
     omega (arith, c.last_of-last.ensures, (run_further a.card.now a.rank (term a.rank) a.at a.more a.more (omega arith) c.requires.addable.rising).0) in
@@ -59,7 +59,7 @@ returns-then-room-head c =
     let words : Words c.args.card.now =
     λ i. omega (arith, c.type_inv.card i) in
     let numbers : Numbers c.args.card.now c.args.size c.args.filling.last c.args.rank c.cost-head.result
-    = numbers_of c.args.card.now c.args.size c.args.filling.last c.args.rank c.cost-head.result c.requires.card_value c.requires.size_value c.cost-head.ensures in
+    = numbers_of c.args.card.now c.args.size c.args.filling.last c.args.rank c.cost-head.result c.requires.card_value c.requires.size_value c.cost-head.ensures.value in
     let highest : c.args.rank ≤ c.last_of-last.result =
     let a = c.args in
     omega (arith, c.last_of-last.ensures, (run_further a.card.now a.rank (term a.rank) a.at a.more a.more (omega arith) c.requires.addable.rising).0) in
@@ -89,7 +89,7 @@ returns c =
     let words : Words c.args.card.now =
     λ i. omega (arith, c.type_inv.card i) in
     let numbers : Numbers c.args.card.now c.args.size c.args.filling.last c.args.rank c.cost-head.result
-    = numbers_of c.args.card.now c.args.size c.args.filling.last c.args.rank c.cost-head.result c.requires.card_value c.requires.size_value c.cost-head.ensures in
+    = numbers_of c.args.card.now c.args.size c.args.filling.last c.args.rank c.cost-head.result c.requires.card_value c.requires.size_value c.cost-head.ensures.value in
     let between : let a = c.args in let end = last a.rank (run_at a.card.now (term a.rank) a.at (c.args.size - c.args.filling.used - (c.cost-head.result - 1) - 1)) in
     (a.rank ≤ end) × (end ≤ c.last_of-last.result) =
     let a = c.args in

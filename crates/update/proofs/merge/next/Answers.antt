@@ -18,7 +18,7 @@ returns-then-rank-eq0 c =
       in_order = c.requires.batch_value;
       skipped = c.skip-old.ensures;
       addition = c.next_addition-added.ensures;
-      pair = c.lesser-rank.ensures;
+      pair = c.lesser-rank.ensures ∙ rw c.unwrap_or.ensures;
     } in
     let i = c.loop-rank.invariant in
     merged_end c.if-rank-eq0.true (i.1 ∙ turn_end i.0 turn c.if-rank-eq0.true)
@@ -32,7 +32,7 @@ returns-then-not-decision c =
       in_order = c.requires.batch_value;
       skipped = c.skip-old.ensures;
       addition = c.next_addition-added.ensures;
-      pair = c.lesser-rank.ensures;
+      pair = c.lesser-rank.ensures ∙ rw c.unwrap_or.ensures;
     } in
     let decided_of : c.decide-decision.result ≡ decided c.args.batch.now (round_reaches (updates c.args.batch.now)) c.loop-rank.decisions c.lesser-rank.result =
     rw c.requires.reaches_value at c.decide-decision.ensures in
@@ -50,7 +50,7 @@ loop-rank-smaller c =
       in_order = c.requires.batch_value;
       skipped = c.skip-old.ensures;
       addition = c.next_addition-added.ensures;
-      pair = c.lesser-rank.ensures;
+      pair = c.lesser-rank.ensures ∙ rw c.unwrap_or.ensures;
     } in
     turn_less c.loop-rank.invariant.0 turn c.if-rank-eq0.false
 
@@ -63,7 +63,7 @@ loop-rank-preserved c =
       in_order = c.requires.batch_value;
       skipped = c.skip-old.ensures;
       addition = c.next_addition-added.ensures;
-      pair = c.lesser-rank.ensures;
+      pair = c.lesser-rank.ensures ∙ rw c.unwrap_or.ensures;
     } in
     let decided_of : c.decide-decision.result ≡ decided c.args.batch.now (round_reaches (updates c.args.batch.now)) c.loop-rank.decisions c.lesser-rank.result =
     rw c.requires.reaches_value at c.decide-decision.ensures in
