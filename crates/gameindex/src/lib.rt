@@ -18,6 +18,7 @@ ghost use Rattle.lines.specs.Lines.{scored};
 
 use lookup::LookupAnswer;
 use page::PageAnswer;
+use refusal::number_of;
 use update::forecast;
 
 // Formats a card; the reply is the number, 0 where it is done.
@@ -25,7 +26,7 @@ use update::forecast;
 pub extern "C" fn gi_format(card: &mut [u32], b: u32, n: u32) -> u32
     ensures { (result ≡ format_number card.old b n) × (card.new ≡ formatted card.old b n) }
 {
-    card::format(card, b, n)
+    number_of(card::format(card, b, n))
 }
 
 // Judges a card; the reply is the number, 0 for a sound card.
@@ -33,7 +34,7 @@ pub extern "C" fn gi_format(card: &mut [u32], b: u32, n: u32) -> u32
 pub extern "C" fn gi_judge(card: &[u32]) -> u32
     ensures { result ≡ judged card.now }
 {
-    judge::judge(card)
+    number_of(judge::judge(card))
 }
 
 // 1 for true, 0 for false.
