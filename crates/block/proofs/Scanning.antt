@@ -5,7 +5,8 @@ use native.Mathlib.Omega.{arith}
 use mathlib.Core.Path.{◌≡◌, refl, sym, ◌∙◌}
 use mathlib.Core.Bool.{Bool, true, false, ◌&&◌, not, and_assoc, and-false}
 use mathlib.Core.List.{List, [], ◌∷◌}
-use borrow.Author.Tests.{ltb-true, leb-true, lt-ltb, le-ltb, le-leb, ne_eqb}
+use Rattle.std.proofs.Common.{Some, None}
+use borrow.Author.Tests.{ltb-true, leb-true, lt-ltb, le-leb, ne_eqb}
 use lib.ListN.{length, take, drop, get_or, length-drop}
 use lib.Seq.{get_or-drop, drop-drop, take_all}
 use lib.Dec.{ltb, leb, eqb}
@@ -51,23 +52,6 @@ standing ws i t e =
       some = simp get_or-drop at some;
       there = omega (arith, simp (get_or-drop, length-drop) at there);
     }
-
--- the test at i
-pub stands_short : (ws : List ℕ) (i t : ℕ) → length ws ≤ i + 2 → false ≡ entry_stands t (drop i ws)
-unfolding entry_stands
-stands_short ws i t h = simp (length-drop, le-ltb 2 (length ws - i) (omega arith))
-
-pub stands_low : (ws : List ℕ) (i t : ℕ) → get_or ws i 0 ≤ t → false ≡ entry_stands t (drop i ws)
-unfolding entry_stands
-stands_low ws i t h = simp (get_or-drop, add-zero, le-ltb t (get_or ws i 0) h, and-false)
-
-pub stands_at :
-    (ws : List ℕ) (i t : ℕ) → i + 2 < length ws → t < get_or ws i 0 →
-    (ltb 0 (get_or ws (i + 1) 0) && leb (get_or ws (i + 1) 0) (length ws - (i + 2))) ≡ entry_stands t (drop i ws)
-unfolding entry_stands
-stands_at ws i t h g =
-    let r : length ws - i - 2 ≡ length ws - (i + 2) = omega arith in
-    simp (length-drop, get_or-drop, add-zero, lt-ltb 2 (length ws - i) (omega arith), lt-ltb t (get_or ws i 0) g, r)
 
 -- an entry that stands: its positions rise, and the rest goes on from it
 formed_entry :
@@ -171,7 +155,7 @@ pub reading_tail :
     (ok && zeros (take (length ws - i) (drop i ws))) ≡ false → formed ws ≡ false
 reading_tail {ws} r e f = unformed_from ws (stopped r e ∙ f)
 
-pub unformed : (ws : List ℕ) → formed ws ≡ false → record { formed = false; first = 0; last = 0 } ≡ scanned ws
+pub unformed : (ws : List ℕ) → formed ws ≡ false → None ≡ scanned ws
 unfolding scanned
 unformed ws e = rw e
 
@@ -201,7 +185,7 @@ formed_start (a ∷ ws) s f = rw (f, ne_eqb a 0 (λ e. omega arith))
 pub reading_end :
     {ws : List ℕ} {ok : Bool} {i t p : ℕ} → Reading ws ok i t p → entry_stands 0 ws ≡ true → entry_stands t (drop i ws) ≡ false →
     (ok && zeros (take (length ws - i) (drop i ws))) ≡ true →
-    record { formed = true; first = rank (get_or ws 0 0) (get_or ws 2 0); last = rank t p } ≡ scanned ws
+    Some (record { first = rank (get_or ws 0 0) (get_or ws 2 0); last = rank t p }) ≡ scanned ws
 unfolding scanned pairs last
 reading_end {ws} {ok} {i} {t} {p} r o e f =
     let s = standing ws 0 0 o in

@@ -9,20 +9,12 @@ ghost use Rattle.block.specs.code.Scan.{entry_stands, scanned};
 
 use pair::Pair;
 
-// What a scan tells of a block: whether it is a live block, and the ranks of its first and its last pair, 0 where it is not.
+// The ranks of the first and the last pair of a live block.
 #[derive(Clone, Copy)]
-pub struct BlockScan {
-    pub formed: bool,
+pub struct Ends {
     pub first: u64,
     pub last: u64,
 }
-
-// What a scan tells of words that are no live block.
-pub const UNFORMED: BlockScan = BlockScan {
-    formed: false,
-    first: 0,
-    last: 0,
-};
 
 // Up to this many positions are compared without a loop.
 const FEW: usize = 4;
@@ -61,12 +53,9 @@ fn rises(positions: &[u32]) -> bool
     }
     let mut ok = true;
     let mut before: u32 = 0;
-    let mut i = 0;
-    while i < positions.len() {
-        let position = positions[i];
+    for &position in positions {
         ok = ok & (before < position);
         before = position;
-        i += 1;
     }
     ok
 }
@@ -75,37 +64,28 @@ fn rises(positions: &[u32]) -> bool
 fn is_zero(words: &[u32]) -> bool
     ensures { result ≡ zeros words.now }
 {
-    let mut ok = true;
-    let mut i = 0;
-    while i < words.len() {
-        ok = ok & (words[i] == 0);
-        i += 1;
-    }
-    ok
+    words.iter().all(|&word| word == 0)
 }
 
 // Whether an entry that goes on from the term stands at i: three words remain, its term is greater, and its positions are there.
+#[tactic(auto, unfolding(crate::specs::code::Scan::entry_stands))]
 fn entry_stands(words: &[u32], i: usize, term: u32) -> bool
     requires { i ≤ length words.now }
     ensures { result ≡ entry_stands term (drop i words.now) }
 {
-    if words.len() <= i + 2 {
-        return false;
-    }
-    if words[i] <= term {
-        return false;
-    }
-    let count = words[i + 1] as usize;
-    let room = words.len() - (i + 2);
-    (0 < count) & (count <= room)
+    let after = i + 2;
+    after < words.len()
+        && term < words[i]
+        && 0 < words[i + 1]
+        && words[i + 1] as usize <= words.len() - after
 }
 
-// Goes over the words of a block once. An entry that does not stand ends the walk as the zeros do, and what follows is then not all 0.
-pub fn scan(words: &[u32]) -> BlockScan
+// Goes over the words of a block once; none where they are no live block. An entry that does not stand ends the walk as the zeros do, and what follows is then not all 0.
+pub fn scan(words: &[u32]) -> Option<Ends>
     ensures { result ≡ scanned words.now }
 {
     if !entry_stands(words, 0, 0) {
-        return UNFORMED;
+        return None;
     }
     let mut ok = true;
     let mut i: usize = 0;
@@ -120,16 +100,15 @@ pub fn scan(words: &[u32]) -> BlockScan
         i = end;
     }
     if !(ok & is_zero(&words[i..])) {
-        return UNFORMED;
+        return None;
     }
     let first = Pair {
         term: words[0],
         position: words[2],
     };
     let last = Pair { term, position };
-    BlockScan {
-        formed: true,
+    Some(Ends {
         first: first.rank(),
         last: last.rank(),
-    }
+    })
 }

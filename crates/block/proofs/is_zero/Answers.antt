@@ -1,8 +1,12 @@
-use Rattle.block.proofs.Walk.{zeros_turn, zeros_end}
+use Rattle.std.proofs.Common.{rules, ◌∙◌, sym}
+use Rattle.std.proofs.lemmas.Iterator.{YieldsList-from_slice}
+use Rattle.std.proofs.lemmas.Iterator.Search.{all_from_yields_List}
+use borrow.Author.Tests.{tests}
+use lib.Dec.{eqb}
+use Rattle.block.proofs.Walk.{zeros-all}
 use Rattle.block.proofs.is_zero.Goals as goal
 
-pub loop-i-preserved : goal.loop-i-preserved
-loop-i-preserved c = zeros_turn c.loop-i.invariant c.loop-i-test.true
-
 pub returns : goal.returns
-returns c = zeros_end c.loop-i.invariant c.loop-i-test.false
+returns c =
+    all_from_yields_List (λ w. eqb w 0) _ _ _ c.all.ensures.ran (YieldsList-from_slice c.args.words.now cc) (λ x b q k. search (rules, tests))
+    ∙ sym (zeros-all c.args.words.now)

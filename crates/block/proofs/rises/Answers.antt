@@ -2,8 +2,8 @@
 use Rattle.block.proofs.Walk.{rises_turn, rises_end}
 use Rattle.block.proofs.rises.Goals as goal
 
-pub loop-i-preserved : goal.loop-i-preserved
-loop-i-preserved c = rises_turn c.loop-i.invariant c.loop-i-test.true
+pub loop-position-preserved : goal.loop-position-preserved
+loop-position-preserved c = rises_turn c.loop-position.invariant c.loop-position-test.true
 
 pub returns : goal.returns
-returns c = rises_end c.loop-i.invariant c.loop-i-test.false
+returns c = rises_end c.loop-position.invariant c.loop-position-test.false
