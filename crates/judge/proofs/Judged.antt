@@ -1,7 +1,7 @@
 -- The judge's number from what its parts answer.
 use Prim.Native.Nat.{ℕ, suc, ◌+◌, ◌-◌, ◌<◌}
 use native.Mathlib.Omega.{arith}
-use mathlib.Core.Path.{◌≡◌, refl, sym, ◌∙◌}
+use mathlib.Core.Path.{◌≡◌, refl, sym, ap, ◌∙◌}
 use mathlib.Core.Bool.{Bool, true, false, cond, ◌&&◌, not, and-false}
 use mathlib.Core.List.{List, [], ◌∷◌}
 use borrow.Author.Tests.{ltb-true, ltb-false, eqb-true, not-false}
@@ -9,13 +9,11 @@ use lib.Dec.{eqb}
 use Rattle.pair.specs.Rising.{rising_from, last}
 use Rattle.pair.specs.Tests.{first_of}
 use Rattle.pair.proofs.FirstOf.{passed, first_of_early, first_of_append, first_of_all_pass}
-use Rattle.judge.specs.declared.SegmentScan.{SegmentScan}
 use Rattle.card.specs.declared.layout.Configuration.{Configuration}
 use Rattle.card.specs.Layout.{place_count, length_of_old, length_of_new, boundary, old_places, new_places, pairs_at}
 use Rattle.card.specs.Sound.{blocks_sound, first_reaches, configuration_conditions, segments_sound, judged}
 use Rattle.card.specs.code.Configuration.{ConfigurationOf, Ordered}
-use Rattle.judge.specs.code.Scan.{segment_sound, segment_scanned}
-use Rattle.judge.proofs.Judging.{tested}
+use Rattle.judge.specs.code.Scan.{new_sound, old_sound}
 use Rattle.card.proofs.Limits.{limits}
 use Rattle.card.proofs.Ordered.{ordered}
 
@@ -62,21 +60,11 @@ grouped true true false d e f = refl
 grouped true true true false e f = sym (and-false e)
 grouped true true true true e f = refl
 
-module _ (c : List ℕ) (e : first_of (configuration_conditions c) ≡ 0) (s : SegmentScan) (f : s ≡ segment_scanned c 0 (new_places c)) (k : ℕ) (g : k ≡ boundary c) where
-  -- both segments
-  segments_tests :
-      segments_sound c
-      ≡ ((s.sound && eqb s.last k) && (segment_sound c 0 (old_places c) && first_reaches c k (old_places c)))
-  unfolding segments_sound segment_scanned
-  segments_tests =
-      grouped (blocks_sound c (new_places c)) (blocks_sound c (old_places c)) (rising_from 0 (pairs_at c (new_places c)))
-      (rising_from 0 (pairs_at c (old_places c))) (eqb (last 0 (pairs_at c (new_places c))) (boundary c)) (first_reaches c (boundary c) (old_places c))
-      ∙ rw (f, g) (rw (tested (segment_sound c 0 (new_places c)) (λ l. eqb l (boundary c)) (last 0 (pairs_at c (new_places c)))))
-
-  pub judged_new : (s.sound && eqb s.last k) ≡ false → 4 ≡ judged c
-  judged_new t = sym (judged_late c e ∙ rw (segments_tests, t))
-
-  pub judged_old :
-      (s.sound && eqb s.last k) ≡ true → (o : Bool) → o ≡ (segment_sound c 0 (old_places c) && first_reaches c k (old_places c)) →
-      cond o 0 4 ≡ judged c
-  judged_old t o h = sym (judged_late c e ∙ rw (segments_tests, t, ← h))
+-- and so to whether the new and the old segment are sound
+pub judged_segments : (c : List ℕ) → first_of (configuration_conditions c) ≡ 0 → judged c ≡ cond (new_sound c && old_sound c) 0 4
+unfolding segments_sound new_sound old_sound
+judged_segments c e =
+    judged_late c e
+    ∙ ap (λ s. cond s 0 4)
+    (grouped (blocks_sound c (new_places c)) (blocks_sound c (old_places c)) (rising_from 0 (pairs_at c (new_places c)))
+    (rising_from 0 (pairs_at c (old_places c))) (eqb (last 0 (pairs_at c (new_places c))) (boundary c)) (first_reaches c (boundary c) (old_places c)))

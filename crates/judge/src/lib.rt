@@ -2,77 +2,70 @@
 
 #![tactic(auto)]
 
-ghost use Rattle.std.specs.Prelude.{◌≡◌, ◌&&◌};
-ghost use Rattle.card.specs.Layout.{place_count, old_places, around};
-ghost use Rattle.card.specs.Sound.{first_reaches, judged};
-ghost use Rattle.card.specs.code.Configuration.{Ordered};
+ghost use Rattle.std.specs.Prelude.{◌≡◌};
 ghost use Rattle.refusal.specs.Refusal.{number_of};
-ghost use Rattle.judge.specs.code.Scan.{block_scanned, segment_sound, segment_scanned};
+ghost use Rattle.card.specs.Layout.{place_count, around};
+ghost use Rattle.card.specs.Sound.{judged};
+ghost use Rattle.card.specs.code.Configuration.{Ordered};
+ghost use Rattle.judge.specs.code.Scan.{block_scanned, segment_scanned, new_sound, old_sound};
 
-use block::{BlockScan, UNFORMED};
+use block::Ends;
 use card::layout;
 use card::layout::Configuration;
 use refusal::Refusal;
 
-// What the walk over the live blocks of a segment tells: whether they are sound and rise, and the rank of the last pair, 0 where they do not.
-#[derive(Clone, Copy)]
-pub struct SegmentScan {
-    pub sound: bool,
-    pub last: u64,
-}
-
-const UNSOUND: SegmentScan = SegmentScan {
-    sound: false,
-    last: 0,
-};
-
-// Scans the block at a place and compares its first pair with the map.
-fn scan_place(card: &[u32], i: u16) -> BlockScan
+// Scans the block at a place; none where it is no live block, or begins with another pair than the map says.
+#[tactic(auto, unfolding(crate::specs::code::Scan::block_scanned, block::specs::code::Scan::scanned))]
+fn scan_place(card: &[u32], i: u16) -> Option<Ends>
     ensures { result ≡ block_scanned card.now i }
 {
-    let block = block::scan(layout::place(card, i));
-    let mapped = layout::first_pair(card, i);
-    if block.formed & (mapped == block.first) {
-        return block;
+    let ends = block::scan(layout::place(card, i))?;
+    if ends.first != layout::first_pair(card, i) {
+        return None;
     }
-    UNFORMED
+    Some(ends)
 }
 
-// Scans len places from start, around the circle, whose pairs are to rise above the rank after.
-fn scan_segment(card: &[u32], k: Configuration, start: u16, len: u16, after: u64) -> SegmentScan
+// Scans len places from start, around the circle, whose pairs are to rise above the rank after; the rank of the last pair.
+fn scan_segment(card: &[u32], k: Configuration, start: u16, len: u16, after: u64) -> Option<u64>
     requires { Ordered card.now k }
     ensures { result ≡ segment_scanned card.now after (around (place_count card.now) start len) }
 {
     let mut last = after;
-    let mut j: u16 = 0;
-    while j < len {
-        let block = scan_place(card, k.place_on(start, j));
-        let rises = last < block.first;
-        if !(block.formed & rises) {
-            return UNSOUND;
+    for j in 0..len {
+        let block = scan_place(card, k.place_on(start, j))?;
+        if block.first <= last {
+            return None;
         }
         last = block.last;
-        j += 1;
     }
-    SegmentScan { sound: true, last }
+    Some(last)
+}
+
+// Whether the new segment is sound and rises up to the boundary.
+fn new_is_sound(card: &[u32], k: Configuration) -> bool
+    requires { Ordered card.now k }
+    ensures { result ≡ new_sound card.now }
+{
+    scan_segment(card, k, k.new_start(), k.new_length, 0) == Some(k.boundary)
 }
 
 // Whether the old segment is sound and rises, and its first block reaches above the boundary.
 fn old_is_sound(card: &[u32], k: Configuration) -> bool
     requires { Ordered card.now k }
-    ensures { result ≡ (segment_sound card.now 0 (old_places card.now) && first_reaches card.now k.boundary (old_places card.now)) }
+    ensures { result ≡ old_sound card.now }
 {
-    let start = k.old_start;
-    let len = k.old_length;
-    if len == 0 {
+    if k.old_length == 0 {
         return true;
     }
-    let first = scan_place(card, start);
-    if !(first.formed & (k.boundary < first.last)) {
+    let Some(first) = scan_place(card, k.old_start) else {
+        return false;
+    };
+    if first.last <= k.boundary {
         return false;
     }
-    let rest = scan_segment(card, k, k.place_on(start, 1), len - 1, first.last);
-    rest.sound
+    let start = k.place_on(k.old_start, 1);
+    scan_segment(card, k, start, k.old_length - 1, first.last).is_some()
 }
 
 // Refuses a card that is not sound.
@@ -81,11 +74,7 @@ pub fn judge(card: &[u32]) -> Result<(), Refusal>
 {
     card::check_configuration(card)?;
     let k = Configuration::of(card);
-    let new = scan_segment(card, k, k.new_start(), k.new_length, 0);
-    if !(new.sound & (new.last == k.boundary)) {
-        return Err(Refusal::BadBlocks);
-    }
-    if !old_is_sound(card, k) {
+    if !new_is_sound(card, k) || !old_is_sound(card, k) {
         return Err(Refusal::BadBlocks);
     }
     Ok(())

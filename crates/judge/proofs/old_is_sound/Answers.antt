@@ -1,37 +1,45 @@
 -- `judge::old_is_sound` meets its contract: without an old segment nothing is asked; else its first block counts, and the rest from its last pair.
-use Prim.Native.Nat.{◌+◌, ◌-◌}
+use Prim.Native.Nat.{ℕ, ◌+◌, ◌-◌}
 use native.Mathlib.Omega.{arith}
 use mathlib.Core.Path.{◌≡◌, sym, ap, ◌∙◌}
-use mathlib.Core.List.{◌∷◌}
+use mathlib.Core.List.{List, ◌∷◌}
+use Rattle.std.specs.Option.{is_some}
 use Rattle.pair.specs.Rank.{Words}
 use Rattle.card.specs.Layout.{place_count, start_of_old, length_of_old, around, old_places}
-use Rattle.judge.specs.code.Scan.{block_scanned, segment_scanned}
-use Rattle.judge.proofs.Judging.{old_none, old_places_law, old_turn, old_stop}
 use Rattle.card.proofs.Ordered.{around_on}
+use Rattle.judge.specs.code.Scan.{block_scanned, segment_scanned}
+use Rattle.judge.proofs.Judging.{old_none, old_dead, old_low, old_turn, old_places_law}
 use Rattle.judge.proofs.old_is_sound.Goals as goal
+use Rattle.judge.proofs.old_is_sound.Goals.{Else-k-eq0}
 
-pub returns-then-len-eq0 : goal.returns-then-len-eq0
-returns-then-len-eq0 c = old_none _ _ (sym c.requires.of_old ∙ c.if-len-eq0.true)
+abbrev rest : Else-k-eq0 → List ℕ
+rest c = let w = c.args.card.now in around (place_count w) (start_of_old w + 1) (length_of_old w - 1)
 
-pub returns-then-not-first-k : goal.returns-then-not-first-k
+places : (c : Else-k-eq0) → old_places c.args.card.now ≡ start_of_old c.args.card.now ∷ rest c
+places c = old_places_law c.args.card.now c.requires.start (λ z. c.if-k-eq0.false (c.requires.of_old ∙ z))
+
+words : (c : Else-k-eq0) → Words c.args.card.now
 unfolding Words
-returns-then-not-first-k c =
-    let words : Words c.args.card.now =
-    λ i. omega (arith, c.type_inv.card i) in
-    let places : let w = c.args.card.now in old_places w ≡ start_of_old w ∷ around (place_count w) (start_of_old w + 1) (length_of_old w - 1) =
-    old_places_law c.args.card.now c.requires.start (λ z. c.if-len-eq0.false (c.requires.of_old ∙ z)) in
-    let first : let w = c.args.card.now in c.scan_place-first.result ≡ block_scanned w (start_of_old w) =
-    c.scan_place-first.ensures ∙ ap (block_scanned _) c.requires.of_start in
-    rw places (old_stop _ words _ _ _ c.scan_place-first.result first c.if-not-first-k.true)
+words c = λ i. omega (arith, c.type_inv.card i)
+
+pub returns-then-k-eq0 : goal.returns-then-k-eq0
+returns-then-k-eq0 c = old_none _ (sym c.requires.of_old ∙ c.if-k-eq0.true)
+
+pub returns-in_default : goal.returns-in_default
+returns-in_default c =
+    let e = (goal.at.returns-in_default c).Else-k-eq0 in
+    old_dead _ (words e) _ (rest e) (places e) (c.in_default.ensures ∙ ap (block_scanned _) c.requires.of_start)
+
+pub returns-then-first-k : goal.returns-then-first-k
+returns-then-first-k c =
+    let e = (goal.at.returns-then-first-k c).Else-k-eq0 in
+    old_low _ (words e) _ (rest e) (places e) c.in-Some.first (c.in-Some.ensures ∙ ap (block_scanned _) c.requires.of_start) (rw c.requires.of_boundary at c.if-first-k.true)
 
 pub returns : goal.returns
-unfolding segment_scanned Words
 returns c =
-    let words : Words c.args.card.now =
-    λ i. omega (arith, c.type_inv.card i) in
-    let places : let w = c.args.card.now in old_places w ≡ start_of_old w ∷ around (place_count w) (start_of_old w + 1) (length_of_old w - 1) =
-    old_places_law c.args.card.now c.requires.start (λ z. c.if-len-eq0.false (c.requires.of_old ∙ z)) in
-    let first : let w = c.args.card.now in c.scan_place-first.result ≡ block_scanned w (start_of_old w) =
-    c.scan_place-first.ensures ∙ ap (block_scanned _) c.requires.of_start in
-    rw (places, c.scan_segment-rest.ensures, c.place_on.ensures, c.requires.of_start, c.requires.of_old, around_on c.requires (start_of_old c.args.card.now) 1 (length_of_old c.args.card.now - 1))
-    (old_turn _ words _ _ _ c.scan_place-first.result first c.if-not-first-k.false)
+    let e = (goal.at.returns c).Else-k-eq0 in
+    let w = c.args.card.now in
+    let scanned : c.scan_segment.result ≡ segment_scanned c.args.card.now c.in-Some.first.last (rest e) =
+    c.scan_segment.ensures ∙ ap (segment_scanned w c.in-Some.first.last) (rw (c.place_on-start.ensures, c.requires.of_start, c.requires.of_old) (around_on c.requires (start_of_old w) 1 (length_of_old w - 1))) in
+    c.is_some.ensures ∙ ap is_some scanned
+    ∙ old_turn w (words e) (start_of_old w) (rest e) (places e) c.in-Some.first (c.in-Some.ensures ∙ ap (block_scanned w) c.requires.of_start) (rw c.requires.of_boundary at c.if-first-k.false)

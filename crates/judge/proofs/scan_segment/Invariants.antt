@@ -1,10 +1,6 @@
 -- `judge::scan_segment` meets its contract. The invariant, Walking: the segment is as a whole what the places from j on are, after the last pair in hand.
-use Prim.Native.Nat.{◌-◌}
 use Rattle.judge.proofs.Judging.{Walking}
 use Rattle.judge.proofs.scan_segment.Given as goal
 
 abbrev pub invariant-loop-j : goal.invariant-loop-j
 invariant-loop-j l = Walking l.card l.start l.len l.after l.last l.j
-
-abbrev pub decreases-loop-j : goal.decreases-loop-j
-decreases-loop-j l = l.len - l.j
