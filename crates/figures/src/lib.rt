@@ -35,7 +35,7 @@ pub fn number(bytes: &[u8]) -> Option<u32>
 }
 
 // The byte of a number's last figure.
-fn last_figure(n: u32) -> u8
+pub fn last_figure(n: u32) -> u8
     ensures { result ≡ figure (n % 10) }
 {
     b'0' + (n % 10) as u8

@@ -1,4 +1,3 @@
-pub mod Answer
 pub mod Claims
 pub mod Figures
 pub mod Page

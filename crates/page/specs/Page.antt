@@ -1,5 +1,5 @@
 -- The bulletin page: a lookup's postings as lines of text.
-use Rattle.std.specs.Prelude.{ℕ, zero, suc, ◌+◌, ◌*◌, ◌/◌, cond, not, List, [], ◌∷◌, ◌++◌, length, get_or, ltb, eqb}
+use Rattle.std.specs.Prelude.{ℕ, ◌≡◌, zero, suc, ◌+◌, ◌*◌, ◌/◌, cond, not, List, [], ◌∷◌, ◌++◌, length, get_or, ltb, eqb}
 use Rattle.std.proofs.lemmas.List.Edits.{sets}
 use Rattle.pair.specs.Tests.{first_of}
 use Rattle.found.specs.Found.{found, question_number}
@@ -57,3 +57,9 @@ printed c t a z memory =
     cond (eqb (page_number c t a z memory) 0)
     (record { number = 0; lines = line_count (found c t a z); memory = sets memory 0 (page t (found c t a z)) })
     (record { number = page_number c t a z memory; lines = 0; memory = memory })
+
+-- the number, the count of lines and the memory left are those of a page
+pub record PrintedOff (number lines : ℕ) (memory : List ℕ) (d : Printed) : Type 0 where
+  pub of_number : number ≡ d.number
+  pub of_lines : lines ≡ d.lines
+  pub of_memory : memory ≡ d.memory

@@ -1,13 +1,11 @@
 // Numbers and blanks as bytes of lent memory.
-ghost use Rattle.std.specs.Prelude.{◌≡◌, ◌+◌, ◌%◌, ◌≤◌, length, replicate};
+ghost use Rattle.std.specs.Prelude.{◌≡◌, ◌+◌, ◌≤◌, length, replicate};
 ghost use Rattle.std.proofs.lemmas.List.Edits.{sets};
-ghost use Rattle.reader.specs.Reader.{yield_of};
-ghost use Rattle.figures.specs.Figures.{figure};
 ghost use Rattle.page.specs.Figures.{blank, column_width, column};
 ghost use Rattle.page.specs.Page.{field_bytes};
 ghost use Rattle.page.specs.code.Putting.{head_of, field_of};
 
-use reader::Yield;
+use figures::last_figure;
 
 // Columns of a number.
 pub(crate) const COLUMN_WIDTH: usize = 10;
@@ -15,23 +13,12 @@ pub(crate) const COLUMN_WIDTH: usize = 10;
 // Bytes of a field: one blank and a number's columns.
 pub(crate) const FIELD_BYTES: usize = 11;
 
-// The byte of a number's last figure.
-fn last_figure(n: u32) -> u8
-    ensures { result ≡ figure (n % 10) }
-{
-    b'0' + (n % 10) as u8
-}
-
 // Writes so many blanks.
 fn put_blanks(memory: &mut [u8], at: usize, count: usize)
     requires { at + count ≤ length memory.old }
     ensures { memory.new ≡ sets memory.old at (replicate count blank) }
 {
-    let mut j: usize = 0;
-    while j < count {
-        memory[at + j] = b' ';
-        j += 1;
-    }
+    memory[at..at + count].fill(b' ');
 }
 
 // Writes a number right-aligned in ten columns: ten blanks, and over them its figures from the last on.
@@ -40,11 +27,9 @@ fn put_column(memory: &mut [u8], at: usize, n: u32)
     ensures { memory.new ≡ sets memory.old at (column n) }
 {
     put_blanks(memory, at, COLUMN_WIDTH);
-    let mut before = COLUMN_WIDTH;
     let mut rest = n;
-    loop {
-        before -= 1;
-        memory[at + before] = last_figure(rest);
+    for place in (at..at + COLUMN_WIDTH).rev() {
+        memory[place] = last_figure(rest);
         rest = rest / 10;
         if rest == 0 {
             return;
@@ -65,17 +50,15 @@ pub(crate) fn put_head(memory: &mut [u8], at: usize, term: u32, i: usize)
 }
 
 // Writes the field of what a reader yields: a blank and the posting, or blanks alone.
-pub(crate) fn put_field(memory: &mut [u8], at: usize, yielded: Yield)
+pub(crate) fn put_field(memory: &mut [u8], at: usize, posting: Option<u32>)
     requires { at + field_bytes ≤ length memory.old }
-    ensures { memory.new ≡ sets memory.old at (field_of (yield_of yielded)) }
+    ensures { memory.new ≡ sets memory.old at (field_of posting) }
 {
-    match yielded {
-        Yield::Posting(position) => {
+    match posting {
+        Some(position) => {
             memory[at] = b' ';
             put_column(memory, at + 1, position);
         }
-        Yield::End => {
-            put_blanks(memory, at, FIELD_BYTES);
-        }
+        None => put_blanks(memory, at, FIELD_BYTES),
     }
 }

@@ -3,12 +3,16 @@ use native.Mathlib.Omega.{arith}
 use Rattle.page.proofs.CodeAnswers.{answered_refused, answered_short, answered_lines}
 use Rattle.page.proofs.page.Goals as goal
 
-pub returns-then-number-ne0 : goal.returns-then-number-ne0
-returns-then-number-ne0 c = answered_refused _ _ _ _ _ c.open_counted-counted.ensures.number c.if-number-ne0.true
+pub returns-in_err-counted : goal.returns-in_err-counted
+returns-in_err-counted c =
+    answered_refused _ _ _ _ _ _ c.from_residual.result c.from_residual.ensures.1 c.in_err-counted.ensures.number
 
 pub returns-then-memory-lines : goal.returns-then-memory-lines
-returns-then-memory-lines c = answered_short _ _ _ _ _ c.open_counted-counted.ensures c.if-number-ne0.false (omega arith) c.if-memory-lines.true
+returns-then-memory-lines c =
+    let o = c.in_ok-counted.ensures in
+    answered_short _ _ _ _ _ o.number o.count.0 c.div_ceil-lines.ensures (omega arith) c.if-memory-lines.true
 
 pub returns : goal.returns
 returns c =
-    answered_lines _ _ _ _ _ c.open_counted-counted.ensures c.if-number-ne0.false (omega arith) c.if-memory-lines.false c.put_lines.ensures
+    let o = c.in_ok-counted.ensures in
+    answered_lines _ _ _ _ _ o.number o.count.0 c.div_ceil-lines.ensures (omega arith) c.if-memory-lines.false o.left c.put_lines.ensures

@@ -6,4 +6,4 @@ use Rattle.page.proofs.put_line.Goals as goal
 pub returns : goal.returns
 returns c =
     let a = c.args in
-    line_put a.memory.now a.i (omega arith) c.put_head.ensures c.put_fields-behind.ensures
+    line_put a.memory.now a.i (omega arith) c.put_head.ensures c.put_fields.ensures

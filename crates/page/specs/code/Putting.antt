@@ -1,16 +1,14 @@
 -- What the code writes, piece by piece.
-use Rattle.std.specs.Prelude.{ℕ, ◌+◌, ◌*◌, ◌≡◌, cond, List, ◌∷◌, eqb}
+use Rattle.std.specs.Prelude.{ℕ, ◌+◌, ◌*◌, ◌≡◌, cond, Option, Some, None, List, ◌∷◌, drop, eqb}
 use Rattle.std.proofs.lemmas.List.Edits.{sets}
-use Rattle.reader.specs.declared.cursor.Cursor.{Cursor}
-use Rattle.reader.specs.Reader.{all_yielded, Yielded, posting, ended}
-use Rattle.reader.specs.code.Cursor.{CursorAfter}
+use Rattle.pair.specs.Rank.{Words}
 use Rattle.page.specs.Figures.{blank, column, no_column}
 use Rattle.page.specs.Page.{line_fields, line_bytes, joined, field, line}
 
--- the field of what is yielded
-unfoldable pub field_of : Yielded → List ℕ
-field_of (posting p) = blank ∷ column p
-field_of ended = blank ∷ no_column
+-- the field of what a reader yields
+unfoldable pub field_of : Option ℕ → List ℕ
+field_of (Some p) = blank ∷ column p
+field_of None = blank ∷ no_column
 
 -- what stands before the fields of the line after i others
 abbrev pub head_of : ℕ → ℕ → List ℕ
@@ -20,16 +18,16 @@ head_of t i = cond (eqb i 0) (column t) no_column
 abbrev pub fields_from : List ℕ → ℕ → ℕ → List ℕ
 fields_from ps n k = joined (λ j. field ps (n + j)) k
 
--- the fields of k postings are put, and the cursor stands behind them
-pub record FieldsPut (c : List ℕ) (v : Cursor) (l : List ℕ) (at k : ℕ) (r : Cursor) (now : List ℕ) : Type 0 where
-  pub put : (t a z n : ℕ) → CursorAfter c t a z n v → now ≡ sets l at (fields_from (all_yielded c t a z) n k)
-  pub after : (t a z n : ℕ) → CursorAfter c t a z n v → CursorAfter c t a z (n + k) r
+-- the fields of the first k postings that are left are put, and the others are left then
+pub record FieldsPut (left l : List ℕ) (at k : ℕ) (then now : List ℕ) : Type 0 where
+  pub put : (ps : List ℕ) (n : ℕ) → Words ps → left ≡ drop n ps → now ≡ sets l at (fields_from ps n k)
+  pub rest : (ps : List ℕ) (n : ℕ) → left ≡ drop n ps → then ≡ drop (n + k) ps
 
--- the line after i others is put, and the cursor stands behind its postings
-pub record LinePut (c : List ℕ) (v : Cursor) (t i : ℕ) (l : List ℕ) (r : Cursor) (now : List ℕ) : Type 0 where
-  pub put : (a z : ℕ) → CursorAfter c t a z (line_fields * i) v → now ≡ sets l (line_bytes * i) (line t (all_yielded c t a z) i)
-  pub after : (a z : ℕ) → CursorAfter c t a z (line_fields * i) v → CursorAfter c t a z (line_fields * i + line_fields) r
+-- the line after i others is put, and its postings are no longer left
+pub record LinePut (t i : ℕ) (left l then now : List ℕ) : Type 0 where
+  pub put : (ps : List ℕ) → Words ps → left ≡ drop (line_fields * i) ps → now ≡ sets l (line_bytes * i) (line t ps i)
+  pub rest : (ps : List ℕ) → left ≡ drop (line_fields * i) ps → then ≡ drop (line_fields * i + line_fields) ps
 
 -- the first n lines are put
-pub record LinesPut (c : List ℕ) (v : Cursor) (t n : ℕ) (l now : List ℕ) : Type 0 where
-  pub put : (a z : ℕ) → CursorAfter c t a z 0 v → now ≡ sets l 0 (joined (line t (all_yielded c t a z)) n)
+pub record LinesPut (t n : ℕ) (ps l now : List ℕ) : Type 0 where
+  pub put : Words ps → now ≡ sets l 0 (joined (line t ps) n)

@@ -1,9 +1,6 @@
--- `page::text::put_blanks` meets its contract. The invariant: the first j blanks are written.
-use Prim.Native.Nat.{◌-◌}
-use Rattle.page.proofs.Columns.{blanking_turn}
-use Rattle.page.proofs.text.put_blanks.Reads as reads
-use Rattle.page.proofs.text.put_blanks.Lts as lts
+-- `page::text::put_blanks` meets its contract.
+use Rattle.page.proofs.Columns.{blanks_put}
 use Rattle.page.proofs.text.put_blanks.Goals as goal
 
-pub loop-j-preserved : goal.loop-j-preserved
-loop-j-preserved c = blanking_turn c.loop-j.invariant c.loop-j-test.true
+pub returns : goal.returns
+returns c = blanks_put _ _ _ _ c.requires (c.fill.ensures.after (λ y e. e))

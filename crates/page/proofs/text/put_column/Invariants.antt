@@ -2,8 +2,5 @@
 use Rattle.page.proofs.Columns.{Figuring}
 use Rattle.page.proofs.text.put_column.Given as goal
 
-abbrev pub invariant-loop-rest : goal.invariant-loop-rest
-invariant-loop-rest l = Figuring l.initial.memory l.at l.n l.memory l.before l.rest
-
-abbrev pub decreases-loop-rest : goal.decreases-loop-rest
-decreases-loop-rest l = l.rest
+abbrev pub invariant-loop-place : goal.invariant-loop-place
+invariant-loop-place l = Figuring l.initial.memory l.at l.n l.memory l.place l.rest

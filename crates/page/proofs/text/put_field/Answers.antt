@@ -2,12 +2,12 @@
 use Rattle.page.proofs.Fields.{posting_put, end_put}
 use Rattle.page.proofs.text.put_field.Goals as goal
 
-pub returns-in-Posting : goal.returns-in-Posting
-returns-in-Posting c =
+pub returns-in-Some : goal.returns-in-Some
+returns-in-Some c =
     let a = c.args in
-    posting_put a.memory.now a.at c.in-Posting.is c.put_column.ensures
+    posting_put a.memory.now a.at c.in-Some.is c.put_column.ensures
 
-pub returns-in-End : goal.returns-in-End
-returns-in-End c =
+pub returns-in-None : goal.returns-in-None
+returns-in-None c =
     let a = c.args in
-    end_put a.memory.now a.at c.in-End.is c.put_blanks.ensures
+    end_put a.memory.now a.at c.in-None.is c.put_blanks.ensures
