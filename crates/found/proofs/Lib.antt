@@ -1,7 +1,6 @@
 pub mod Answers
 pub mod Asking
 pub mod Bound
-pub mod Counting
 pub mod Frame
 pub mod Mapping
 pub mod Opening

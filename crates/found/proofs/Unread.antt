@@ -1,5 +1,6 @@
 -- The blocks of a segment that a lookup does not read hold nothing wanted, so that what is wanted of the segment is wanted of the defined span.
 use Prim.Native.Nat.{ℕ, zero, suc, ◌+◌, ◌-◌, ◌%◌, ◌≤◌, ◌<◌, zero-le}
+use native.Mathlib.Nat.{mod-lt}
 use native.Mathlib.Omega.{arith}
 use mathlib.Core.Path.{◌≡◌, refl, sym, ap, ◌∙◌}
 use mathlib.Core.Bool.{Bool, true, false, cond, ◌&&◌, ◌||◌}
@@ -199,6 +200,7 @@ module _ (c : List ℕ) (k : Configuration) (start len t a z after : ℕ) (g : S
   span_ready =
       record {
         shape = λ q. g.ordered.shaped;
+        within = λ q. unfold spanned in mod-lt (start + skipped) (omega (arith, g.ordered.shaped.count_low));
         live = rw places (each_take (λ i. formed (place c i) ≡ true) (read - skipped) (drop skipped is) (each_drop (λ i. formed (place c i) ≡ true) skipped is (sound_live c is g.sound)));
       }
 

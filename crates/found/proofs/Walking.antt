@@ -1,5 +1,6 @@
 -- The walk over the blocks that a lookup reads: what is ahead of it, block by block.
 use Prim.Native.Nat.{ℕ, suc, ◌+◌, ◌-◌, ◌%◌, ◌≤◌, ◌<◌, zero-le}
+use native.Mathlib.Nat.{mod-eq_of_lt, mod-lt}
 use native.Mathlib.Omega.{arith}
 use mathlib.Core.Path.{◌≡◌, refl, sym, ap, ◌∙◌}
 use mathlib.Core.Bool.{Bool, true}
@@ -8,8 +9,7 @@ use borrow.Author.Tests.{ne_eqb}
 use lib.ListN.{length, take, drop, length-take, length-drop, length-append, length-map}
 use lib.Seq.{drop-drop}
 use Rattle.pair.specs.Rank.{position}
-use Rattle.pair.specs.Rising.{Each, keep}
-use Rattle.pair.proofs.Each.{each_second}
+use Rattle.pair.specs.Rising.{keep}
 use Rattle.pair.proofs.Keep.{keep_append}
 use Rattle.block.specs.Block.{pairs, formed}
 use Rattle.wanted.specs.code.Wanted.{is_wanted, BlockPart}
@@ -19,12 +19,11 @@ use Rattle.pair.proofs.Lists.{length_part}
 use Rattle.card.specs.Layout.{block_size, place_count, place_at, place, around, pairs_at}
 use Rattle.card.specs.code.Configuration.{ConfigurationOf, place_on}
 use Rattle.card.specs.declared.layout.Configuration.{Configuration}
-use Rattle.card.proofs.Circle.{around_add, around_mod, around_cons, around_more}
+use Rattle.card.proofs.Circle.{around_mod}
 use Rattle.card.proofs.Live.{pairs_at_append}
 use Rattle.found.specs.declared.walk.Stretch.{Stretch}
 use Rattle.found.specs.declared.walk.Walk.{Walk}
-use Rattle.found.specs.declared.walk.Run.{Run}
-use Rattle.found.specs.code.Walk.{PlacePart, postings, at_first, places_of, ahead_of, ahead, next_run, next_start, Ready, FirstRun, ReadyWalk, NextRun}
+use Rattle.found.specs.code.Walk.{PlacePart, postings, at_first, places_of, ahead_of, ahead, next_run, next_start, blocks_of, Ready, FirstPlace, FirstRun, ReadyWalk, NextRun}
 
 -- what a block answers, said of the card: nothing,
 pub place_none : {c : List ℕ} {i t a z : ℕ} {r : Part} → BlockPart (place c i) t a z r → r.len ≡ 0 → PlacePart c i t a z (record { start = 0; len = 0 })
@@ -113,119 +112,137 @@ module _ {A : Type 0} (c : List ℕ) (f : ℕ → Bool) (has : ℕ → A) where
       both : (kept i ≡ []) × (keep f (pairs_at c is) ≡ [])
       both = append_empty (kept i) (keep f (pairs_at c is)) (unfold pairs_at in (sym (keep_append f (pairs (place c i)) (pairs_at c is)) ∙ e))
 
--- The wanted positions of a stretch, block by block: of its first j blocks,
-abbrev pub ahead_to : List ℕ → ℕ → ℕ → Stretch → ℕ → List ℕ
-ahead_to c t z s j = postings c (is_wanted t s.after z) (around (place_count c) s.place j)
+-- one place of a stretch after another
+places_step : (n p b : ℕ) → p < n → around n p (suc b) ≡ p ∷ around n ((p + 1) % n) b
+unfolding around
+places_step n p b l = rw (mod-eq_of_lt l, around_mod n (p + 1) b)
 
--- and of those behind them.
-abbrev pub ahead_from : List ℕ → ℕ → ℕ → Stretch → ℕ → List ℕ
-ahead_from c t z s j = postings c (is_wanted t s.after z) (around (place_count c) (s.place + j) (s.blocks - j))
+-- a stretch without blocks
+pub spent_ready : (c : List ℕ) (s : Stretch) → s.blocks ≡ 0 → Ready c s
+unfolding around
+spent_ready c s e =
+    record {
+      shape = λ l. absurd (let z : ⊥ = omega arith in z);
+      within = λ l. absurd (let z : ⊥ = omega arith in z);
+      live = rw e tt;
+    }
 
-pub ahead_none : (c : List ℕ) (t z : ℕ) (s : Stretch) → ahead_to c t z s 0 ≡ []
-ahead_none c t z s = unfold around in postings_none c (is_wanted t s.after z)
+pub spent_ahead : (c : List ℕ) (t z : ℕ) (s : Stretch) → s.blocks ≡ 0 → ahead_of c t z s ≡ []
+spent_ahead c t z s e = rw e (unfold around in postings_none c (is_wanted t s.after z))
 
-pub ahead_split : (c : List ℕ) (t z : ℕ) (s : Stretch) (j : ℕ) → j ≤ s.blocks → ahead_of c t z s ≡ ahead_to c t z s j ++ ahead_from c t z s j
-ahead_split c t z s j h =
-    let e : j + (s.blocks - j) ≡ s.blocks = omega arith in
-    let around_all = rw e at (around_add (place_count c) s.place j (s.blocks - j)) in
-    ap (postings c (is_wanted t s.after z)) around_all
-    ∙ postings_append c (is_wanted t s.after z) (around (place_count c) s.place j) (around (place_count c) (s.place + j) (s.blocks - j))
+-- the first place of a stretch is left behind
+pub first_place :
+    {c : List ℕ} {s : Stretch} {k : Configuration} {q b : ℕ} → ConfigurationOf c k → b + 1 ≡ s.blocks → q ≡ place_on k.places s.place 1 →
+    FirstPlace c s s.place (record { place = q; blocks = b; after = s.after })
+unfolding place_on
+first_place {c} {s} {k} {q} {b} o h e =
+    record {
+      fewer = omega arith;
+      after = refl;
+      places = step;
+      ready = λ r.
+          record {
+            shape = λ l. r.shape (omega arith);
+            within = λ l. rw (on r) (mod-lt (s.place + 1) (omega (arith, (r.shape (omega arith)).count_low)));
+            live = (rw (step r) at r.live).1;
+          };
+    }
+  where
+    on : Ready c s → q ≡ (s.place + 1) % place_count c
+    on r =
+        let shape = r.shape (omega arith) in
+        let n : k.places ≡ place_count c = omega (arith, o.of_places, shape.count_high) in
+        e ∙ rw (n, ne_eqb (place_count c) 0 (omega (arith, shape.count_low)))
 
-pub ahead_most : (c : List ℕ) (t z : ℕ) (s : Stretch) (j : ℕ) → j ≤ s.blocks → length (ahead_to c t z s j) ≤ length (ahead_of c t z s)
-ahead_most c t z s j h =
-    omega (arith, ap length (ahead_split c t z s j h) ∙ length-append (ahead_to c t z s j) (ahead_from c t z s j))
+    step : Ready c s → places_of c s ≡ s.place ∷ around (place_count c) q b
+    step r =
+        let n : s.blocks ≡ suc b = omega arith in
+        rw (n, on r) (places_step (place_count c) s.place b (r.within (omega arith)))
 
--- The block j of a stretch is read, whose place is the first of these.
-abbrev places_from : List ℕ → Stretch → ℕ → List ℕ
-places_from c s j = (s.place + j) % place_count c ∷ around (place_count c) (s.place + (j + 1)) (s.blocks - (j + 1))
+-- the places before those of the stretch now hold nothing wanted
+pub record Seeking (c : List ℕ) (t z : ℕ) (s now : Stretch) : Type 0 where
+  pub most : now.blocks ≤ s.blocks
+  pub after : now.after ≡ s.after
+  pub ready : Ready c s → Ready c now
+  pub before : List ℕ
+  pub places : Ready c s → places_of c s ≡ before ++ places_of c now
+  pub none : Ready c s → postings c (is_wanted t s.after z) before ≡ []
 
-module _ (c : List ℕ) (s : Stretch) (j : ℕ) (h : j < s.blocks) where
-  split : places_of c s ≡ around (place_count c) s.place j ++ places_from c s j
-  split =
-      let n : j + (s.blocks - j) ≡ s.blocks = omega arith in
-      rw n at (around_add (place_count c) s.place j (s.blocks - j))
-      ∙ ap (λ l. around (place_count c) s.place j ++ l) (around_cons (place_count c) s.place s.blocks j h)
+pub seeking_start : (c : List ℕ) (t z : ℕ) (s : Stretch) → Seeking c t z s s
+seeking_start c t z s =
+    record { most = omega arith; after = refl; ready = λ r. r; before = []; places = λ r. refl; none = λ r. postings_none c (is_wanted t s.after z) }
 
-  live_from : Ready c s → Each (λ i. formed (place c i) ≡ true) (places_from c s j)
-  live_from r = each_second _ (around (place_count c) s.place j) (places_from c s j) (rw split at r.live)
+-- no block is left
+pub seeking_end : {c : List ℕ} {t z : ℕ} {s now : Stretch} → Seeking c t z s now → now.blocks ≡ 0 → Ready c s → ahead_of c t z s ≡ []
+seeking_end {c} {t} {z} {s} {now} g e r =
+    let f = is_wanted t s.after z in
+    ap (postings c f) (g.places r) ∙ postings_append c f g.before (places_of c now)
+    ∙ rw (g.none r, ← g.after) (spent_ahead c t z now e)
 
-  -- the code's places are those of the circle
-  on : {k : Configuration} → ConfigurationOf c k → Ready c s → (i : ℕ) → place_on k.places s.place i ≡ (s.place + i) % place_count c
-  unfolding place_on
-  on {k} o r i =
-      let shape = r.shape (omega arith) in
-      let n : k.places ≡ place_count c = omega (arith, o.of_places, shape.count_high) in
-      rw (n, ne_eqb (place_count c) 0 (omega (arith, shape.count_low)))
+-- the block at a place is read
+module _ {c : List ℕ} {t z : ℕ} {s now rest : Stretch} {p : ℕ} {x : Part} (g : Seeking c t z s now) (h : FirstPlace c now p rest) (y : PlacePart c p t rest.after z x) where
+  live : Ready c s → formed (place c p) ≡ true
+  live r = (rw (h.places (g.ready r)) at (g.ready r).live).0
 
-module _ {c : List ℕ} {t z : ℕ} {s : Stretch} {k : Configuration} {j q : ℕ} {x : Part} (o : ConfigurationOf c k) (h : j < s.blocks) (e : q ≡ place_on k.places s.place j) (y : PlacePart c q t s.after z x) where
-  has_part :
-      Ready c s →
-      take x.len (drop x.start c) ≡ map position (keep (is_wanted t s.after z) (pairs (place c ((s.place + j) % place_count c))))
-  has_part r = rw (e ∙ on c s j h o r j) at y.positions (live_from c s j h r).0
+  has_part : Ready c s → take x.len (drop x.start c) ≡ map position (keep (is_wanted t s.after z) (pairs (place c p)))
+  has_part r = rw (h.after ∙ g.after) at y.positions (live r)
 
-  -- it adds its part,
-  pub ahead_turn : Ready c s → ahead_to c t z s (j + 1) ≡ ahead_to c t z s j ++ take x.len (drop x.start c)
-  ahead_turn r =
-      let f = is_wanted t s.after z in
-      let here = (s.place + j) % place_count c in
-      ap (postings c f) (around_more (place_count c) s.place j) ∙ postings_append c f (around (place_count c) s.place j) (here ∷ [])
-      ∙ ap (λ l. ahead_to c t z s j ++ l) (postings_cons c f here [] ∙ rw (postings_none c f) (append-nil _) ∙ sym (has_part r))
+  all_places : Ready c s → places_of c s ≡ g.before ++ (p ∷ places_of c rest)
+  all_places r = g.places r ∙ ap (λ l. g.before ++ l) (h.places (g.ready r))
 
-  pub length_turn : Ready c s → length (ahead_to c t z s (j + 1)) ≡ length (ahead_to c t z s j) + x.len
-  length_turn r =
-      ap length (ahead_turn r) ∙ length-append (ahead_to c t z s j) (take x.len (drop x.start c))
-      ∙ ap (λ n. length (ahead_to c t z s j) + n) (length_part c x.start x.len y.inside)
+  -- it has nothing wanted
+  pub seeking_turn : x.len ≤ 0 → Seeking c t z s rest
+  seeking_turn l =
+      record {
+        most = omega (arith, g.most, h.fewer);
+        after = h.after ∙ g.after;
+        ready = λ r. h.ready (g.ready r);
+        before = g.before ++ (p ∷ []);
+        places = λ r. all_places r ∙ sym (append_assoc g.before (p ∷ []) (places_of c rest));
+        none = λ r.
+            let f = is_wanted t s.after z in
+            let n : x.len ≡ 0 = omega arith in
+            postings_append c f g.before (p ∷ []) ∙ rw (g.none r, postings_cons c f p [], ← has_part r, n) (postings_none c f);
+      }
 
-  -- or is the first that has any.
-  pub seek_hit :
-      (Ready c s → ahead_to c t z s j ≡ []) → 0 < x.len → {p : ℕ} → p ≡ place_on k.places s.place (j + 1) →
-      FirstRun c t z s (record { part = x; rest = record { place = p; blocks = s.blocks - j - 1; after = s.after } })
-  seek_hit n l {p} d =
+  -- it has the run
+  pub seeking_hit : 0 < x.len → FirstRun c t z s x rest
+  seeking_hit l =
       record {
         inside = y.inside;
         some = l;
-        fewer = omega arith;
-        ready = λ r. record { shape = λ b. r.shape (omega arith); live = rw (rest_places r) (live_from c s j h r).1 };
+        fewer = omega (arith, g.most, h.fewer);
+        ready = λ r. h.ready (g.ready r);
         run = λ r none. has_part r ∙ sym (first _ r none);
-        starts = λ r none.
-            let at : q ≡ (s.place + j) % place_count c = e ∙ on c s j h o r j in
-            rw at at (y.before (rw at (live_from c s j h r).0) l) ∙ sym (first _ r none);
-        rest = λ r. ahead_split c t z s (j + 1) (omega arith) ∙ rw (ahead_turn r, n r, rest_places r);
+        starts = λ r none. rw (h.after ∙ g.after) at (y.before (live r) l) ∙ sym (first _ r none);
+        rest = λ r.
+            let f = is_wanted t s.after z in
+            ap (postings c f) (all_places r) ∙ postings_append c f g.before (p ∷ places_of c rest)
+            ∙ rw (g.none r, h.after ∙ g.after, has_part r) (postings_cons c f p (places_of c rest));
       }
     where
-      rest_places : Ready c s → around (place_count c) p (s.blocks - j - 1) ≡ around (place_count c) (s.place + (j + 1)) (s.blocks - (j + 1))
-      rest_places r =
-          let b : s.blocks - j - 1 ≡ s.blocks - (j + 1) = omega arith in
-          rw (d ∙ on c s j h o r (j + 1), b) (around_mod (place_count c) (s.place + (j + 1)) (s.blocks - (j + 1)))
-
-      some : Ready c s → 0 < length (keep (is_wanted t s.after z) (pairs (place c ((s.place + j) % place_count c))))
+      some : Ready c s → 0 < length (keep (is_wanted t s.after z) (pairs (place c p)))
       some r =
-          let kept = keep (is_wanted t s.after z) (pairs (place c ((s.place + j) % place_count c))) in
+          let kept = keep (is_wanted t s.after z) (pairs (place c p)) in
           let e : length (take x.len (drop x.start c)) ≡ length kept = ap length (has_part r) ∙ length-map kept position in
           let m = length_part c x.start x.len y.inside in
           omega arith
 
-      first : {A : Type 0} (has : ℕ → A) → Ready c s → (none : A) → at_first c (is_wanted t s.after z) has (places_of c s) none ≡ has ((s.place + j) % place_count c)
+      first : {A : Type 0} (has : ℕ → A) → Ready c s → (none : A) → at_first c (is_wanted t s.after z) has (places_of c s) none ≡ has p
       first has r none =
           let f = is_wanted t s.after z in
-          let before = around (place_count c) s.place j in
-          ap (λ is. at_first c f has is none) (split c s j h) ∙ first_append c f has before (places_from c s j) none
-          ∙ first_none c f has before _ (map_nil position _ (unfold postings in n r)) ∙ first_hit c f has _ _ none (some r)
+          ap (λ is. at_first c f has is none) (all_places r) ∙ first_append c f has g.before (p ∷ places_of c rest) none
+          ∙ first_none c f has g.before _ (map_nil position _ (unfold postings in g.none r)) ∙ first_hit c f has p (places_of c rest) none (some r)
 
--- nothing is wanted so far
-pub seek_turn :
-    {c : List ℕ} {t z : ℕ} {s : Stretch} {k : Configuration} {j q : ℕ} {x : Part} → ConfigurationOf c k → j < s.blocks →
-    q ≡ place_on k.places s.place j → PlacePart c q t s.after z x → (Ready c s → ahead_to c t z s j ≡ []) → x.len ≤ 0 →
-    Ready c s → ahead_to c t z s (j + 1) ≡ []
-seek_turn {c} {x = x} o h e y n l r =
-    let zero_len : x.len ≡ 0 = omega arith in
-    ahead_turn o h e y r ∙ rw (n r, zero_len)
+-- where nothing is ahead of a stretch, its first run is whatever stands for none
+pub stretch_none : {A : Type 0} (c : List ℕ) (t z : ℕ) (s : Stretch) (has : ℕ → A) (none : A) → ahead_of c t z s ≡ [] → at_first c (is_wanted t s.after z) has (places_of c s) none ≡ none
+stretch_none c t z s has none e = first_none c (is_wanted t s.after z) has (places_of c s) none (map_nil position _ (unfold postings in e))
 
 -- of two stretches, the first that has a run
 pub next_new :
-    {c : List ℕ} {w : Walk} {r : Run Stretch} → FirstRun c w.term w.to w.new r →
-    NextRun c w (record { part = r.part; rest = record { term = w.term; to = w.to; new = r.rest; old = w.old } })
-next_new {c} {w} {r} s =
+    {c : List ℕ} {w : Walk} {x : Part} {new : Stretch} → FirstRun c w.term w.to w.new x new →
+    NextRun c w x (record { term = w.term; to = w.to; new = new; old = w.old })
+next_new {c} {w} {x} {new} s =
     record {
       inside = s.inside;
       some = s.some;
@@ -235,36 +252,21 @@ next_new {c} {w} {r} s =
       starts = λ g. s.starts g.new _;
       rest = λ g.
           ap (λ l. l ++ ahead_of c w.term w.to w.old) (s.rest g.new)
-          ∙ append_assoc (take r.part.len (drop r.part.start c)) (ahead_of c w.term w.to r.rest) (ahead_of c w.term w.to w.old);
+          ∙ append_assoc (take x.len (drop x.start c)) (ahead_of c w.term w.to new) (ahead_of c w.term w.to w.old);
     }
 
--- a stretch without blocks
-abbrev pub no_blocks : Stretch
-no_blocks = record { place = 0; blocks = 0; after = 0 }
-
-pub no_blocks_ready : (c : List ℕ) → Ready c no_blocks
-unfolding around
-no_blocks_ready c = record { shape = λ l. absurd (let z : ⊥ = omega arith in z); live = tt }
-
-pub no_blocks_ahead : (c : List ℕ) (t z : ℕ) → ahead_of c t z no_blocks ≡ []
-no_blocks_ahead c t z = ahead_none c t z no_blocks
-
--- where nothing is ahead of a stretch, its first run is whatever stands for none
-pub stretch_none : {A : Type 0} (c : List ℕ) (t z : ℕ) (s : Stretch) (has : ℕ → A) (none : A) → ahead_of c t z s ≡ [] → at_first c (is_wanted t s.after z) has (places_of c s) none ≡ none
-stretch_none c t z s has none e = first_none c (is_wanted t s.after z) has (places_of c s) none (map_nil position _ (unfold postings in e))
-
 pub next_old :
-    {c : List ℕ} {w : Walk} {r : Run Stretch} → (Ready c w.new → ahead_of c w.term w.to w.new ≡ []) → FirstRun c w.term w.to w.old r →
-    NextRun c w (record { part = r.part; rest = record { term = w.term; to = w.to; new = no_blocks; old = r.rest } })
-next_old {c} {w} {r} n s =
+    {c : List ℕ} {w : Walk} {x : Part} {new old : Stretch} → (Ready c w.new → ahead_of c w.term w.to w.new ≡ []) → new.blocks ≡ 0 →
+    FirstRun c w.term w.to w.old x old → NextRun c w x (record { term = w.term; to = w.to; new = new; old = old })
+next_old {c} {w} {x} {new} {old} n e s =
     record {
       inside = s.inside;
       some = s.some;
       fewer = omega (arith, s.fewer);
-      ready = λ g. record { new = no_blocks_ready c; old = s.ready g.old };
+      ready = λ g. record { new = spent_ready c new e; old = s.ready g.old };
       run = λ g. s.run g.old [] ∙ sym (stretch_none c w.term w.to w.new _ _ (n g.new));
       starts = λ g. s.starts g.old 0 ∙ sym (stretch_none c w.term w.to w.new _ _ (n g.new));
-      rest = λ g. rw (n g.new, no_blocks_ahead c w.term w.to) (s.rest g.old);
+      rest = λ g. rw (n g.new, spent_ahead c w.term w.to new e) (s.rest g.old);
     }
 
 -- nothing is ahead of a walk: it has no next run
@@ -275,12 +277,38 @@ no_next_run c w e =
       stretch_none c w.term w.to w.new _ _ both.0 ∙ stretch_none c w.term w.to w.old _ _ both.1,
     )
 
--- the walk that has nothing ahead
-abbrev pub empty : Walk
-empty = record { term = 0; to = 0; new = no_blocks; old = no_blocks }
+-- a walk that has no blocks
+pub spent_walk_ready : (c : List ℕ) (w : Walk) → blocks_of w ≡ 0 → ReadyWalk c w
+spent_walk_ready c w e = record { new = spent_ready c w.new (omega arith); old = spent_ready c w.old (omega arith) }
 
-pub empty_ready : (c : List ℕ) → ReadyWalk c empty
-empty_ready c = record { new = no_blocks_ready c; old = no_blocks_ready c }
+pub spent_walk_ahead : (c : List ℕ) (w : Walk) → blocks_of w ≡ 0 → ahead c w ≡ []
+spent_walk_ahead c w e = rw (spent_ahead c w.term w.to w.new (omega arith), spent_ahead c w.term w.to w.old (omega arith))
 
-pub empty_ahead : (c : List ℕ) → ahead c empty ≡ []
-empty_ahead c = rw (no_blocks_ahead c 0 0)
+-- n positions of a walk are left behind, and the others are ahead of the walk now
+pub record Taking (c : List ℕ) (w now : Walk) (n : ℕ) : Type 0 where
+  pub ready : ReadyWalk c now
+  pub done : List ℕ
+  pub all : ahead c w ≡ done ++ ahead c now
+  pub count : n ≡ length done
+
+pub taking_start : {c : List ℕ} {w : Walk} → ReadyWalk c w → Taking c w w 0
+taking_start r = record { ready = r; done = []; all = refl; count = refl }
+
+module _ {c : List ℕ} {w now rest : Walk} {n : ℕ} {x : Part} (g : Taking c w now n) (h : NextRun c now x rest) where
+  all_run : ahead c w ≡ (g.done ++ take x.len (drop x.start c)) ++ ahead c rest
+  all_run =
+      g.all ∙ ap (λ l. g.done ++ l) (h.rest g.ready) ∙ sym (append_assoc g.done (take x.len (drop x.start c)) (ahead c rest))
+
+  count_run : length (g.done ++ take x.len (drop x.start c)) ≡ n + x.len
+  count_run = length-append g.done (take x.len (drop x.start c)) ∙ rw (← g.count, length_part c x.start x.len h.inside)
+
+  -- a run more
+  pub taking_turn : Taking c w rest (n + x.len)
+  taking_turn = record { ready = h.ready g.ready; done = g.done ++ take x.len (drop x.start c); all = all_run; count = sym count_run }
+
+  pub taking_most : n + x.len ≤ length (ahead c w)
+  taking_most =
+      omega (arith, count_run, ap length all_run ∙ length-append (g.done ++ take x.len (drop x.start c)) (ahead c rest))
+
+pub taking_end : {c : List ℕ} {w now : Walk} {n : ℕ} → (g : Taking c w now n) → (ReadyWalk c now → ahead c now ≡ []) → ahead c w ≡ g.done
+taking_end {c} {w} {now} {n} g e = g.all ∙ rw (e g.ready) (append-nil g.done)

@@ -9,7 +9,6 @@ use Rattle.card.specs.Layout.{place_count, place_at, place, around, pairs_at}
 use Rattle.card.specs.code.Configuration.{Shaped}
 use Rattle.found.specs.declared.walk.Stretch.{Stretch}
 use Rattle.found.specs.declared.walk.Walk.{Walk}
-use Rattle.found.specs.declared.walk.Run.{Run}
 
 -- the part lies in the card; of a live block it has the wanted positions, and starts where the first of them stands
 pub record PlacePart (c : List ℕ) (i t a z : ℕ) (r : Part) : Type 0 where
@@ -49,21 +48,29 @@ first_run c t z s none = run_of c (is_wanted t s.after z) (places_of c s) none
 abbrev pub first_start : List ℕ → ℕ → ℕ → Stretch → ℕ → ℕ
 first_start c t z s none = run_start_of c (is_wanted t s.after z) (places_of c s) none
 
--- a stretch that has blocks is one of a card of the right shape, and they are live blocks
+-- a stretch that has blocks lies in a card of the right shape, and they are live blocks
 pub record Ready (c : List ℕ) (s : Stretch) : Type 0 where
   pub shape : 0 < s.blocks → Shaped c
+  pub within : 0 < s.blocks → s.place < place_count c
   pub live : Each (λ i. formed (place c i) ≡ true) (places_of c s)
+
+-- the first place of a stretch, and what is behind it
+pub record FirstPlace (c : List ℕ) (s : Stretch) (place : ℕ) (behind : Stretch) : Type 0 where
+  pub fewer : behind.blocks < s.blocks
+  pub after : behind.after ≡ s.after
+  pub places : Ready c s → places_of c s ≡ place ∷ places_of c behind
+  pub ready : Ready c s → Ready c behind
 
 -- the first run of a stretch: a part of the card, with fewer blocks behind it; of live blocks it is their first run, whatever stands for none,
 -- and what was ahead is the run and what is ahead behind it
-pub record FirstRun (c : List ℕ) (t z : ℕ) (s : Stretch) (r : Run Stretch) : Type 0 where
-  pub inside : r.part.start + r.part.len ≤ length c
-  pub some : 0 < r.part.len
-  pub fewer : r.rest.blocks < s.blocks
-  pub ready : Ready c s → Ready c r.rest
-  pub run : Ready c s → (none : List ℕ) → take r.part.len (drop r.part.start c) ≡ first_run c t z s none
-  pub starts : Ready c s → (none : ℕ) → r.part.start ≡ first_start c t z s none
-  pub rest : Ready c s → ahead_of c t z s ≡ take r.part.len (drop r.part.start c) ++ ahead_of c t z r.rest
+pub record FirstRun (c : List ℕ) (t z : ℕ) (s : Stretch) (part : Part) (behind : Stretch) : Type 0 where
+  pub inside : part.start + part.len ≤ length c
+  pub some : 0 < part.len
+  pub fewer : behind.blocks < s.blocks
+  pub ready : Ready c s → Ready c behind
+  pub run : Ready c s → (none : List ℕ) → take part.len (drop part.start c) ≡ first_run c t z s none
+  pub starts : Ready c s → (none : ℕ) → part.start ≡ first_start c t z s none
+  pub rest : Ready c s → ahead_of c t z s ≡ take part.len (drop part.start c) ++ ahead_of c t z behind
 
 -- the same of a walk
 abbrev pub ahead : List ℕ → Walk → List ℕ
@@ -85,11 +92,11 @@ pub record ReadyWalk (c : List ℕ) (w : Walk) : Type 0 where
 
 -- the next run of a walk: a part of the card, with fewer blocks behind it; of a walk over live blocks it is the next run, and what was ahead is
 -- the run and what is ahead behind it
-pub record NextRun (c : List ℕ) (w : Walk) (r : Run Walk) : Type 0 where
-  pub inside : r.part.start + r.part.len ≤ length c
-  pub some : 0 < r.part.len
-  pub fewer : blocks_of r.rest < blocks_of w
-  pub ready : ReadyWalk c w → ReadyWalk c r.rest
-  pub run : ReadyWalk c w → take r.part.len (drop r.part.start c) ≡ next_run c w
-  pub starts : ReadyWalk c w → r.part.start ≡ next_start c w
-  pub rest : ReadyWalk c w → ahead c w ≡ take r.part.len (drop r.part.start c) ++ ahead c r.rest
+pub record NextRun (c : List ℕ) (w : Walk) (part : Part) (behind : Walk) : Type 0 where
+  pub inside : part.start + part.len ≤ length c
+  pub some : 0 < part.len
+  pub fewer : blocks_of behind < blocks_of w
+  pub ready : ReadyWalk c w → ReadyWalk c behind
+  pub run : ReadyWalk c w → take part.len (drop part.start c) ≡ next_run c w
+  pub starts : ReadyWalk c w → part.start ≡ next_start c w
+  pub rest : ReadyWalk c w → ahead c w ≡ take part.len (drop part.start c) ++ ahead c behind

@@ -8,13 +8,13 @@ use Rattle.found.proofs.map.opened.Goals as goal
 
 pub live_after-new_after-requires : goal.live_after-new_after-requires
 live_after-new_after-requires c =
-    let question : Asked c.args.card.now c.args.term c.args.from c.args.to =
+    let question : Asked c.args.card.now c.args.q.term c.args.q.from c.args.q.to =
     asked _ _ _ _ c.requires in
     question.from_low
 
 pub span-new-requires : goal.span-new-requires
 span-new-requires c =
-    let question : Asked c.args.card.now c.args.term c.args.from c.args.to =
+    let question : Asked c.args.card.now c.args.q.term c.args.q.from c.args.q.to =
     asked _ _ _ _ c.requires in
     let sound : Facts c.args.card.now =
     facts _ question.sound in
@@ -22,13 +22,13 @@ span-new-requires c =
 
 pub live_after-old_after-requires : goal.live_after-old_after-requires
 live_after-old_after-requires c =
-    let question : Asked c.args.card.now c.args.term c.args.from c.args.to =
+    let question : Asked c.args.card.now c.args.q.term c.args.q.from c.args.q.to =
     asked _ _ _ _ c.requires in
     question.from_low
 
 pub span-old-requires : goal.span-old-requires
 span-old-requires c =
-    let question : Asked c.args.card.now c.args.term c.args.from c.args.to =
+    let question : Asked c.args.card.now c.args.q.term c.args.q.from c.args.q.to =
     asked _ _ _ _ c.requires in
     let sound : Facts c.args.card.now =
     facts _ question.sound in
@@ -40,4 +40,4 @@ returns c =
     let words : Words c.args.card.now =
     λ i. omega (arith, c.type_inv.card i) in
     rw (c.span-new.ensures, c.span-old.ensures, c.new_start.ensures)
-    (opened_walk c.args.card.now c.of-k.result c.args.term c.args.from c.args.to _ _ words c.requires c.of-k.ensures c.live_after-new_after.ensures (rw c.of-k.ensures.of_boundary at c.live_after-old_after.ensures))
+    (opened_walk c.args.card.now c.of-k.result c.args.q.term c.args.q.from c.args.q.to _ _ words c.requires c.of-k.ensures c.live_after-new_after.ensures (rw c.of-k.ensures.of_boundary at c.live_after-old_after.ensures))

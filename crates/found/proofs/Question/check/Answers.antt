@@ -1,10 +1,10 @@
--- `found::check_question` meets its contract: the judge's refusal, then that of the question.
+-- `found::Question::check` meets its contract: the judge's refusal, then that of the question.
 use Rattle.std.proofs.Common.{◌∙◌, arith}
 use Rattle.std.proofs.lemmas.Grind.{common_steps}
 use Rattle.pair.specs.Tests.{first_of}
 use Rattle.refusal.proofs.Numbers.{number_positive, number_returned}
 use Rattle.found.specs.Found.{question_number}
-use Rattle.found.proofs.check_question.Goals as goal
+use Rattle.found.proofs.Question.check.Goals as goal
 
 pub returns-in_err-judge : goal.returns-in_err-judge
 unfolding question_number first_of
