@@ -5,16 +5,18 @@ use native.Mathlib.Nat.{add-zero}
 use mathlib.Core.Path.{◌≡◌, refl, sym, ◌∙◌}
 use mathlib.Core.Bool.{Bool, true, false, ◌&&◌, not}
 use mathlib.Core.List.{List, ◌∷◌}
-use lib.ListN.{length}
+use lib.ListN.{length, get_or}
 use lib.Dec.{ltb, leb, eqb}
 use borrow.Author.Tests.{leb-true, leb-false, not-true, lt-ltb, le-ltb}
 use Rattle.pair.specs.Rank.{Words}
-use Rattle.pair.specs.Rising.{keep, above, any}
+use Rattle.std.proofs.Common.{Some}
+use Rattle.pair.specs.Rising.{keep, above, any, last}
 use Rattle.pair.proofs.Tests.{and_left, and_right}
 use Rattle.pair.proofs.Parts.{above_all}
 use Rattle.pair.proofs.Rising.{any_last, rising_cons}
 use Rattle.block.specs.Block.{pairs, formed}
 use Rattle.block.specs.code.Scan.{scanned}
+use Rattle.block.specs.declared.Ends.{Ends}
 use Rattle.block.proofs.Reading.{formed_rising}
 use Rattle.card.specs.Layout.{place_count, start_of_old, length_of_old, place, around, old_places, pairs_at}
 use Rattle.card.proofs.Circle.{around_cons}
@@ -88,13 +90,23 @@ freeing_start c k f =
     let b : length_of_old c - 0 ≡ length_of_old c = omega arith in
     record { within = zero-le; sound = rw (a, b) f.old_sound; counted = rw (a, b) (omega arith) }
 
--- its block's last pair tells whether it has one above k
+-- the block there is live
+live_there : {c : List ℕ} {k n : ℕ} → Freeing c k n → n < length_of_old c → formed (place c ((start_of_old c + n) % place_count c)) ≡ true
+live_there {c} {k} {n} s h = (place_block c ((start_of_old c + n) % place_count c) _ (rw (around_cons (place_count c) (start_of_old c) (length_of_old c) n h) at s.sound)).0
+
+abbrev pub ends_at : List ℕ → ℕ → Ends
+ends_at c i = record { first = get_or (pairs (place c i)) 0 0; last = last 0 (pairs (place c i)) }
+
+pub scanned_there : {c : List ℕ} {k n : ℕ} → Freeing c k n → n < length_of_old c → let i = (start_of_old c + n) % place_count c in scanned (place c i) ≡ Some (ends_at c i)
+unfolding scanned
+scanned_there s h = rw (live_there s h)
+
+-- its last pair tells whether it has one above k
 reaches : {c : List ℕ} {k n : ℕ} → Freeing c k n → n < length_of_old c → Words c →
-    any (ltb k) (pairs (place c ((start_of_old c + n) % place_count c))) ≡ ltb k (scanned (place c ((start_of_old c + n) % place_count c))).last
+    any (ltb k) (pairs (place c ((start_of_old c + n) % place_count c))) ≡ ltb k (last 0 (pairs (place c ((start_of_old c + n) % place_count c))))
 reaches {c} {k} {n} s h w =
     let i = (start_of_old c + n) % place_count c in
-    let f = (place_block c i _ (rw (around_cons (place_count c) (start_of_old c) (length_of_old c) n h) at s.sound)).0 in
-    any_last (pairs (place c i)) 0 k (formed_rising (place c i) (place_words c i w) f) zero-le ∙ (unfold scanned in rw f)
+    any_last (pairs (place c i)) 0 k (formed_rising (place c i) (place_words c i w) (live_there s h)) zero-le
 
 spent_none : (c : List ℕ) (k i : ℕ) (is : List ℕ) → any (ltb k) (pairs (place c i)) ≡ false → spent c k (i ∷ is) ≡ suc (spent c k is)
 unfolding spent
@@ -105,11 +117,11 @@ unfolding spent
 spent_some c k i is e = rw e
 
 pub freeing_turn :
-    {c : List ℕ} {k n : ℕ} → Freeing c k n → n < length_of_old c → Words c → (scanned (place c ((start_of_old c + n) % place_count c))).last ≤ k →
+    {c : List ℕ} {k n : ℕ} → Freeing c k n → n < length_of_old c → Words c → last 0 (pairs (place c ((start_of_old c + n) % place_count c))) ≤ k →
     Freeing c k (n + 1)
 freeing_turn {c} {k} {n} s h w l =
     let i = (start_of_old c + n) % place_count c in
-    let none : any (ltb k) (pairs (place c i)) ≡ false = reaches s h w ∙ le-ltb k (scanned (place c i)).last l in
+    let none : any (ltb k) (pairs (place c i)) ≡ false = reaches s h w ∙ le-ltb k (last 0 (pairs (place c i))) l in
     record {
       within = omega arith;
       sound = (place_block c i _ (rw (around_cons (place_count c) (start_of_old c) (length_of_old c) n h) at s.sound)).1;
@@ -117,11 +129,11 @@ freeing_turn {c} {k} {n} s h w l =
     }
 
 pub freeing_stop :
-    {c : List ℕ} {k n : ℕ} → Freeing c k n → n < length_of_old c → Words c → k < (scanned (place c ((start_of_old c + n) % place_count c))).last →
+    {c : List ℕ} {k n : ℕ} → Freeing c k n → n < length_of_old c → Words c → k < last 0 (pairs (place c ((start_of_old c + n) % place_count c))) →
     n ≡ spent c k (old_places c)
 freeing_stop {c} {k} {n} s h w l =
     let i = (start_of_old c + n) % place_count c in
-    let some : any (ltb k) (pairs (place c i)) ≡ true = reaches s h w ∙ lt-ltb k (scanned (place c i)).last l in
+    let some : any (ltb k) (pairs (place c i)) ≡ true = reaches s h w ∙ lt-ltb k (last 0 (pairs (place c i))) l in
     sym (s.counted ∙ rw (around_cons (place_count c) (start_of_old c) (length_of_old c) n h, spent_some c k i (around (place_count c) (start_of_old c + (n + 1)) (length_of_old c - (n + 1))) some) (add-zero n))
 
 pub freeing_end : {c : List ℕ} {k n : ℕ} → Freeing c k n → length_of_old c ≤ n → n ≡ spent c k (old_places c)

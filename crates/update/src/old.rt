@@ -167,16 +167,13 @@ pub(crate) fn spent_from(card: &[u32], from: u16, rank: u64) -> Spent
     let k = Configuration::of(card);
     let start = k.old_start;
     let len = k.old_length;
-    let mut n = from;
-    while n < len {
-        let block = block::scan(layout::place(card, k.place_on(start, n)));
-        let last = block.last;
+    for n in from..len {
+        let last = block::scan(layout::place(card, k.place_on(start, n))).unwrap().last;
         if rank < last {
             return Spent { count: n, last };
         }
-        n += 1;
     }
-    Spent { count: n, last: 0 }
+    Spent { count: len, last: 0 }
 }
 
 // The same from those with no pair above a lower rank; no block is scanned again.

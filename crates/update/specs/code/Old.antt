@@ -1,9 +1,8 @@
 -- The old segment read pair by pair: what is still to come after a place in it.
 use Rattle.std.specs.Prelude.{ℕ, zero, suc, ◌+◌, ◌-◌, ◌%◌, ◌≤◌, ◌<◌, ◌≡◌, true, cond, List, [], ◌∷◌, ◌++◌, length, take, drop, get_or, eqb}
 use Rattle.pair.specs.Rank.{rank}
-use Rattle.pair.specs.Rising.{above, rising_from}
-use Rattle.block.specs.Block.{pairs_from, formed_from}
-use Rattle.block.specs.code.Scan.{scanned}
+use Rattle.pair.specs.Rising.{above, rising_from, last}
+use Rattle.block.specs.Block.{pairs_from, pairs, formed_from}
 use Rattle.card.specs.Layout.{block_size, place_count, start_of_old, length_of_old, place, around, old_places, pairs_at}
 use Rattle.card.specs.code.Configuration.{Shaped}
 use Rattle.card.specs.Sound.{blocks_sound}
@@ -99,7 +98,7 @@ pub record Freeing (c : List ℕ) (k n : ℕ) : Type 0 where
 -- where the last pair of the place behind those that are spent is told, it is that
 pub record Known (c : List ℕ) (s : Spent) : Type 0 where
   pub inside : 0 < s.last → s.count < length_of_old c
-  pub is : 0 < s.last → s.last ≡ (scanned (place c ((start_of_old c + s.count) % place_count c))).last
+  pub is : 0 < s.last → s.last ≡ last 0 (pairs (place c ((start_of_old c + s.count) % place_count c)))
 
 -- they are some of those with no pair above k
 pub record Spends (c : List ℕ) (k : ℕ) (s : Spent) : Type 0 where
