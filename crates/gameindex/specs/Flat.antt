@@ -1,12 +1,13 @@
 -- The answers of the C functions: flat numbers.
-use Rattle.std.specs.Prelude.{ℕ, ◌≡◌, Bool, cond, List}
+use Rattle.std.specs.Prelude.{ℕ, ◌≡◌, Bool, cond, List, Result}
+use Rattle.refusal.specs.declared.Refusal.{Refusal}
+use Rattle.refusal.specs.Refusal.{number_of}
 use Rattle.update.specs.Step.{Step}
-use Rattle.update.specs.declared.forecast.ForecastAnswer.{ForecastAnswer}
 use Rattle.update.specs.Forecast as forecast
-use Rattle.update.specs.Forecast.{blocks_of, limit_of, finishes_of, writes_of}
-use Rattle.span.specs.declared.WriteSpan.{WriteSpan}
-use Rattle.lookup.specs.declared.LookupAnswer.{LookupAnswer}
-use Rattle.lookup.specs.Answer.{number_of, count_of, blocks_read_of}
+use Rattle.update.specs.Forecast.{ForecastAnswer, blocks_of, limit_of, finishes_of, writes_of}
+use Rattle.span.specs.Span.{WriteSpan}
+use Rattle.lookup.specs.declared.Found.{Found}
+use Rattle.lookup.specs.Answer.{count_of, blocks_read_of}
 use Rattle.found.specs.Found.{Lookup}
 use Rattle.page.specs.Page.{Printed}
 use Rattle.lines.specs.Lines.{Scored}
@@ -37,7 +38,7 @@ pub record Spanned (number start count : ℕ) (s : WriteSpan) : Type 0 where
   pub of_count : count ≡ s.count
 
 -- the reply and the numbers filled in are those of a lookup's answer
-pub record Filled (number found blocks : ℕ) (answer : LookupAnswer) : Type 0 where
+pub record Filled (number found blocks : ℕ) (answer : Result Found Refusal) : Type 0 where
   pub of_number : number ≡ number_of answer
   pub of_found : found ≡ count_of answer
   pub of_blocks : blocks ≡ blocks_read_of answer

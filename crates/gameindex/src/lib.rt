@@ -9,16 +9,16 @@ ghost use Rattle.span.specs.Span.{write_span};
 ghost use Rattle.update.specs.Step.{step};
 ghost use Rattle.update.specs.Forecast.{forecast};
 ghost use Rattle.pair.specs.Bounds.{lowest, highest};
-ghost use Rattle.gameindex.specs.Flat.{flag, Stepped, Foretold, Spanned, Filled, LookedUp, Paged, ReadScores};
+ghost use Rattle.gameindex.specs.Flat.{Stepped, Foretold, Spanned, Filled, LookedUp, Paged, ReadScores};
 ghost use Rattle.found.specs.Found.{lookup};
 ghost use Rattle.found.specs.Views.{Viewed};
 ghost use Rattle.reader.specs.Reader.{read, ReadOff};
 ghost use Rattle.page.specs.Page.{printed};
 ghost use Rattle.lines.specs.Lines.{scored};
 
-use lookup::LookupAnswer;
+use lookup::Found;
 use page::PageAnswer;
-use refusal::number_of;
+use refusal::{Refusal, number_of};
 use update::forecast;
 
 // Formats a card; the reply is the number, 0 where it is done.
@@ -37,16 +37,6 @@ pub extern "C" fn gi_judge(card: &[u32]) -> u32
     number_of(judge::judge(card))
 }
 
-// 1 for true, 0 for false.
-fn flag(value: bool) -> u32
-    ensures { result ≡ flag value }
-{
-    if value {
-        return 1;
-    }
-    0
-}
-
 // One step of a pass; the reply is the number, 0 where a write was made. The write, the old places freed and whether the pass finished are filled in.
 #[unsafe(no_mangle)]
 pub extern "C" fn gi_step(
@@ -58,11 +48,20 @@ pub extern "C" fn gi_step(
 ) -> u32
     ensures { Stepped result write.new freed.new finished.new card.new (step card.old batch.now) }
 {
-    let answer = update::step(card, batch);
-    *write = update::write_of(answer);
-    *freed = update::freed_of(answer);
-    *finished = flag(update::finished_of(answer));
-    update::number_of(answer)
+    match update::step(card, batch) {
+        Ok(written) => {
+            *write = written.number();
+            *freed = written.freed();
+            *finished = u32::from(written.is_finished());
+            0
+        }
+        Err(refusal) => {
+            *write = 0;
+            *freed = 0;
+            *finished = 0;
+            refusal.into()
+        }
+    }
 }
 
 // What an uncut run of a batch comes to; the reply is the number, 0 where it is told. How many blocks what remains fills, the step limit, whether
@@ -78,12 +77,22 @@ pub extern "C" fn gi_forecast(
 ) -> u32
     ensures { Foretold result blocks.new limit.new finishes.new writes.new (forecast card.now batch.now) }
 {
-    let answer = forecast::forecast(card, batch);
-    *blocks = forecast::blocks_of(answer);
-    *limit = forecast::limit_of(answer);
-    *finishes = flag(forecast::finishes_of(answer));
-    *writes = forecast::writes_of(answer);
-    forecast::number_of(answer)
+    match forecast::forecast(card, batch) {
+        Ok(outlook) => {
+            *blocks = outlook.blocks();
+            *limit = outlook.limit();
+            *finishes = u32::from(outlook.is_finishing());
+            *writes = outlook.writes();
+            0
+        }
+        Err(refusal) => {
+            *blocks = 0;
+            *limit = 0;
+            *finishes = 0;
+            *writes = 0;
+            refusal.into()
+        }
+    }
 }
 
 // Where a write of a step stands in the card that the step left; the reply is the number, 0 where it is done. The first word and the count of words go behind the last two references.
@@ -96,29 +105,39 @@ pub extern "C" fn gi_write_span(
 ) -> u32
     ensures { Spanned result start.new count.new (write_span card.now write) }
 {
-    let span = span::write_span(card, write);
-    *start = span.start;
-    *count = span.count;
-    span.number
+    match span::write_span(card, write) {
+        Ok(span) => {
+            *start = span.start;
+            *count = span.count;
+            0
+        }
+        Err(refusal) => {
+            *start = 0;
+            *count = 0;
+            refusal.into()
+        }
+    }
 }
 
 // The number of a lookup's answer; the count of positions and of blocks read go behind the references.
-fn fill(answer: LookupAnswer, found: &mut u32, blocks: &mut u32) -> u32
+fn fill(answer: Result<Found, Refusal>, found: &mut u32, blocks: &mut u32) -> u32
     ensures { Filled result found.new blocks.new answer }
 {
     match answer {
-        LookupAnswer::Refused(number) => {
-            *found = 0;
-            *blocks = 0;
-            number
-        }
-        LookupAnswer::Found {
-            count,
-            blocks: read,
-        } => {
+        Ok(
+            Found {
+                count,
+                blocks: read,
+            },
+        ) => {
             *found = count;
             *blocks = read;
             0
+        }
+        Err(refusal) => {
+            *found = 0;
+            *blocks = 0;
+            refusal.into()
         }
     }
 }
@@ -167,10 +186,18 @@ pub extern "C" fn gi_run_view(
 ) -> u32
     ensures { Viewed card.now term from to result start.new found.new }
 {
-    let part = lookup::run_part(card, term, from, to);
-    *start = part.start;
-    *found = part.len;
-    part.number
+    match lookup::run_part(card, term, from, to) {
+        Ok(part) => {
+            *start = part.start;
+            *found = part.len;
+            0
+        }
+        Err(refusal) => {
+            *start = 0;
+            *found = 0;
+            refusal.into()
+        }
+    }
 }
 
 // Reads the first positions of a question, as many as there are answer words; the reply is the number, 0 where it is done. The count of positions goes behind the last reference.
@@ -185,9 +212,16 @@ pub extern "C" fn gi_read(
 ) -> u32
     ensures { ReadOff result found.new answer.new (read card.now term from to answer.old) }
 {
-    let reading = reader::read(card, term, from, to, answer);
-    *found = reading.count;
-    reading.number
+    match reader::read(card, term, from, to, answer) {
+        Ok(postings) => {
+            *found = postings;
+            0
+        }
+        Err(refusal) => {
+            *found = 0;
+            refusal.into()
+        }
+    }
 }
 
 // Writes the page of a question into the first bytes of the memory; the reply is the number, 0 where it is done. The count of lines goes behind the last reference.
