@@ -1,5 +1,5 @@
 -- `update::old::spent_from` meets its contract. The invariant, Freeing: the first n old places have no pair above the rank.
-use Prim.Native.Nat.{ℕ, ◌+◌, ◌%◌, ◌<◌, ◌≤◌}
+use Prim.Native.Nat.{◌+◌, ◌%◌, ◌<◌}
 use native.Mathlib.Omega.{arith}
 use mathlib.Core.Path.{◌≡◌, sym, ap, subst, ◌∙◌}
 use Rattle.std.proofs.Common.{Some, rules}
@@ -30,7 +30,7 @@ found c =
     c.scan.ensures ∙ ap scanned (c.place.ensures ∙ ap (place _) (c.place_on.ensures ∙ place_on_law o _ _ ∙ rw o.of_start)) ∙ scanned_there c.loop-n.invariant (inside c)
 
 pub unwrap-last-requires : goal.unwrap-last-requires
-unwrap-last-requires c = rw found (goal.at.unwrap-last-requires c).After-scan (search rules)
+unwrap-last-requires c = rw (found (goal.at.unwrap-last-requires c).After-scan) (search rules)
 
 pub returns-then-rank-last : goal.returns-then-rank-last
 unfolding Words
