@@ -17,9 +17,13 @@ use Rattle.batch.specs.Batch.{records_most}
 use Rattle.sort.specs.Sort.{records_from, records, laid, key_at, sorted, sorted_words, sortable, sort}
 use Rattle.sort.proofs.Answers.{refused, done}
 use Rattle.sort.proofs.Records.{Wide, laid_length, records_laid, sorted_wide, sorted_length}
-use Rattle.lines.specs.declared.Gathered.{Gathered}
+use Rattle.std.specs.Result.{IsErrAnd}
+use Rattle.std.proofs.Common.{Result, Ok, Err, subst}
+use Rattle.refusal.specs.declared.Refusal.TheVariants.{TooFewWords}
+use Rattle.refusal.proofs.Numbers.{number_positive}
+use Rattle.lines.specs.declared.Fault.{Fault}
 use Rattle.lines.specs.Lines.{letter_a, letter_r, lines, fields, record_of, line_record, line_number, fault_from, fault, line_records, batch_of, scores_number, scored}
-use Rattle.lines.specs.code.Gathering.{Gathers, Answers}
+use Rattle.lines.specs.code.Gathering.{HasFault, Gathers, answered}
 use Rattle.lines.proofs.Numbered.{numbered_length, numbered_wide}
 
 -- a line says four words
@@ -90,28 +94,22 @@ unfolding fault
 quiet_none bytes e = quiet_from 0 (lines bytes) e
 
 -- a number of a line comes before that of the lent words
-pub answers_faulty :
-    (bytes batch : List ℕ) {number line : ℕ} → number ≡ (fault bytes).number → line ≡ (fault bytes).line → number ≢ 0 →
-    Answers (scored bytes batch) (record { number = number; words = 0; line = line }) batch
+faulty_answered : (bytes batch : List ℕ) (f : Fault) → HasFault bytes f → answered (Err f) batch ≡ scored bytes batch
 unfolding scored scores_number first_of
-answers_faulty bytes batch {number} {line} e f n =
-    let k : eqb (fault bytes).number 0 ≡ false = ne_eqb (fault bytes).number 0 (λ z. n (e ∙ z)) in
-    rw (k, k) (record { of_number = e; of_words = refl; of_line = f; of_batch = refl })
+faulty_answered bytes batch f h =
+    let k : eqb (fault bytes).number 0 ≡ false = ne_eqb (fault bytes).number 0 (λ z. omega (arith, h.of_number, z, number_positive f.refusal)) in
+    rw (k, k, ← h.of_number, ← h.of_line)
 
-module _ (bytes batch : List ℕ) (none : (fault bytes).number ≡ 0) (quiet : (fault bytes).line ≡ 0) where
+module _ (bytes batch : List ℕ) (none : (fault bytes).number ≡ 0) where
   -- too few words are lent
-  pub answers_short : length batch < length (batch_of bytes) → Answers (scored bytes batch) (record { number = 10; words = 0; line = 0 }) batch
+  answered_short : length batch < length (batch_of bytes) → answered (Err (record { refusal = TooFewWords; line = 0 })) batch ≡ scored bytes batch
   unfolding scored scores_number first_of
-  answers_short h =
-      rw (none, lt-ltb (length batch) (length (batch_of bytes)) h) (record { of_number = refl; of_words = refl; of_line = sym quiet; of_batch = refl })
+  answered_short h = rw (none, lt-ltb (length batch) (length (batch_of bytes)) h, quiet_none bytes none)
 
   -- the batch stands in the first of them
-  pub answers_read :
-      {words : ℕ} {now : List ℕ} → length (batch_of bytes) ≤ length batch → words ≡ length (batch_of bytes) → now ≡ sets batch 0 (batch_of bytes) →
-      Answers (scored bytes batch) (record { number = 0; words = words; line = 0 }) now
+  answered_read : length (batch_of bytes) ≤ length batch → answered (Ok (length (batch_of bytes))) (sets batch 0 (batch_of bytes)) ≡ scored bytes batch
   unfolding scored scores_number first_of
-  answers_read h e f =
-      rw (none, le-ltb (length batch) (length (batch_of bytes)) h) (record { of_number = refl; of_words = e; of_line = refl; of_batch = f })
+  answered_read h = rw (none, le-ltb (length batch) (length (batch_of bytes)) h)
 
 -- the records stand in the first words of their memory
 first_words : (rs : List (List ℕ)) (l : List ℕ) (n : ℕ) → length (laid rs) ≡ n → n ≤ length l → take n (sets l 0 (laid rs)) ≡ laid rs
@@ -144,41 +142,40 @@ sort_refused ws batch n e d = go (sortable 5 1 ws batch) refl
     go false k = (leb-false (length ws) (length batch) (sym (whole_sortable ws batch n e) ∙ k), sym (refused 5 1 ws batch k).1.1)
 
 -- what the sort answers of the records gathered
-module _
-    (bytes batch l : List ℕ) {g : Gathered} {now : List ℕ} (a : Gathers bytes l g now) (none : g.number ≡ 0) (room : length l ≡ 5 * records_most)
-  where
-    abbrev ws : List ℕ
-    ws = take (5 * g.count) now
+module _ (bytes batch l : List ℕ) {count : ℕ} {now : List ℕ} (a : Gathers bytes l count now) (room : length l ≡ 5 * records_most) where
+  abbrev ws : List ℕ
+  ws = take (5 * count) now
 
-    wide : Wide 5 (line_records bytes)
-    wide = records_wide bytes (sym a.of_number ∙ none)
+  wide : Wide 5 (line_records bytes)
+  wide = records_wide bytes a.faultless
 
-    quiet : (fault bytes).line ≡ 0
-    quiet = quiet_none bytes (sym a.of_number ∙ none)
+  long : length (laid (line_records bytes)) ≡ 5 * count
+  long = laid_length 5 (line_records bytes) wide ∙ ap (λ n. 5 * n) (records_many bytes ∙ sym a.many)
 
-    long : length (laid (line_records bytes)) ≡ 5 * g.count
-    long = laid_length 5 (line_records bytes) wide ∙ ap (λ n. 5 * n) (records_many bytes ∙ sym (a.many none))
+  words_laid : ws ≡ laid (line_records bytes)
+  words_laid = ap (take (5 * count)) a.stand ∙ first_words (line_records bytes) l (5 * count) long (omega (arith, room, a.few))
 
-    words_laid : ws ≡ laid (line_records bytes)
-    words_laid = ap (take (5 * g.count)) (a.stand none) ∙ first_words (line_records bytes) l (5 * g.count) long (omega (arith, room, a.few))
+  words_length : length ws ≡ 5 * count
+  words_length = ap length words_laid ∙ long
 
-    pub words_length : length ws ≡ 5 * g.count
-    words_length = ap length words_laid ∙ long
+  batch_long : length (batch_of bytes) ≡ 5 * count
+  batch_long = batch_length bytes wide ∙ ap (λ n. 5 * n) (records_many bytes ∙ sym a.many)
 
-    batch_long : length (batch_of bytes) ≡ 5 * g.count
-    batch_long = batch_length bytes wide ∙ ap (λ n. 5 * n) (records_many bytes ∙ sym (a.many none))
+  pub answered_unsorted :
+      {after : List ℕ} → false ≡ (sort 5 1 ws batch).done → after ≡ (sort 5 1 ws batch).work →
+      answered (Err (record { refusal = TooFewWords; line = 0 })) after ≡ scored bytes batch
+  answered_unsorted d e =
+      let r = sort_refused ws batch count words_length d in
+      rw (e ∙ r.1) (answered_short bytes batch a.faultless (omega (arith, r.0, words_length, batch_long)))
 
-    pub answers_unsorted :
-        {after : List ℕ} → false ≡ (sort 5 1 ws batch).done → after ≡ (sort 5 1 ws batch).work →
-        Answers (scored bytes batch) (record { number = 10; words = 0; line = 0 }) after
-    answers_unsorted d e =
-        let r = sort_refused ws batch g.count words_length d in
-        rw (e ∙ r.1) (answers_short bytes batch (sym a.of_number ∙ none) quiet (omega (arith, r.0, words_length, batch_long)))
+  pub answered_sorted :
+      {after : List ℕ} → true ≡ (sort 5 1 ws batch).done → after ≡ (sort 5 1 ws batch).work → answered (Ok (5 * count)) after ≡ scored bytes batch
+  answered_sorted {after = after} d e =
+      let r = sort_done ws batch count words_length d in
+      let work : after ≡ sets batch 0 (batch_of bytes) = e ∙ r.1 ∙ ap (sets batch 0) (ap (sorted_words 5 1) words_laid ∙ sorted_batch bytes wide) in
+      rw (work, ← batch_long) (answered_read bytes batch a.faultless (omega (arith, r.0, words_length, batch_long)))
 
-    pub answers_sorted :
-        {after : List ℕ} → true ≡ (sort 5 1 ws batch).done → after ≡ (sort 5 1 ws batch).work →
-        Answers (scored bytes batch) (record { number = 0; words = 5 * g.count; line = 0 }) after
-    answers_sorted d e =
-        let r = sort_done ws batch g.count words_length d in
-        answers_read bytes batch (sym a.of_number ∙ none) quiet (omega (arith, r.0, words_length, batch_long)) (sym batch_long)
-        (e ∙ r.1 ∙ ap (sets batch 0) (ap (sorted_words 5 1) words_laid ∙ sorted_batch bytes wide))
+-- a fault of the lines is handed on
+pub faulty_returned : (bytes batch : List ℕ) {f : Fault} (r : Result ℕ Fault) → IsErrAnd r (λ x. x ≡ f) → HasFault bytes f → answered r batch ≡ scored bytes batch
+faulty_returned bytes batch (Ok n) k h = absurd k
+faulty_returned bytes batch (Err x) k h = faulty_answered bytes batch x (subst (HasFault bytes) (sym k) h)

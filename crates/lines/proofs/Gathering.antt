@@ -1,62 +1,45 @@
 -- The records of the lines gathered, one line after another.
-use Prim.Native.Nat.{ℕ, suc, ◌+◌, ◌*◌, ◌-◌, ◌≤◌, ◌<◌, zero-le}
+use Prim.Native.Nat.{ℕ, suc, ◌+◌, ◌*◌, ◌≤◌, ◌<◌, zero-le}
 use native.Mathlib.Omega.{arith}
 use native.Mathlib.Nat.{zero-add}
 use mathlib.Core.Path.{◌≡◌, refl, sym, ap, ◌∙◌}
 use mathlib.Core.Logic.{◌≢◌}
+use Rattle.std.specs.Option.{ok_or}
+use Rattle.std.specs.Result.{IsErrAnd, IfErr}
+use Rattle.std.proofs.Common.{Option, Some, None, Result, Ok, Err, subst}
+use Rattle.std.proofs.lemmas.List.{nil_from_length}
 use mathlib.Core.List.{List, [], ◌∷◌, ◌++◌, map, append_assoc, append-nil}
-use borrow.Author.Tests.{lt-leb, eq-eqb, ne_eqb}
-use lib.ListN.{length, take, drop, get_or, length-append, length-map, drop_of_length-le}
-use lib.Seq.{sets, length-sets, drop-cons, drop-drop}
+use borrow.Author.Tests.{lt-leb, ne_eqb}
+use lib.ListN.{length, length-append, length-map}
+use lib.Seq.{sets}
 use Rattle.pair.specs.Tests.{first_of}
 use Rattle.pair.proofs.Lists.{sets_behind}
 use Rattle.batch.specs.Batch.{records_most}
 use Rattle.sort.specs.Sort.{laid}
 use Rattle.sort.proofs.Records.{Wide, wide_one, laid_length, laid_one, laid_append}
+use Rattle.refusal.specs.declared.Refusal.{Refusal}
+use Rattle.refusal.specs.declared.Refusal.TheVariants.{OtherForm, TooManyLines}
+use Rattle.refusal.specs.Refusal.{number}
+use Rattle.lines.specs.declared.Fault.{Fault}
 use Rattle.lines.specs.declared.line.Record.{Record}
-use Rattle.lines.specs.Lines.{line_feed, lines, line_record, line_number, fault_from, fault, numbered, line_records}
-use Rattle.lines.specs.code.Gathering.{before, words_of, Gathers}
+use Rattle.lines.specs.Lines.{lines, line_record, line_number, fault_from, fault, numbered, line_records}
+use Rattle.lines.specs.code.Gathering.{kind_number, words_of, HasFault, Gathers}
 use Rattle.lines.proofs.Numbered.{numbered_next, numbered_length}
-use Rattle.lines.proofs.Splitting.{lines_next}
 
--- the records of count lines stand in the memory, and those from byte at on are left
-pub record Gathering (bytes l now : List ℕ) (count at : ℕ) : Type 0 where
+-- the records of count lines stand in the memory, and the lines of rest are left
+pub record Gathering (bytes l now rest : List ℕ) (count : ℕ) : Type 0 where
   pub few : count ≤ records_most
   pub done : List (List ℕ)
   pub wide : Wide 5 done
   pub many : length done ≡ count
   pub same : now ≡ sets l 0 (laid done)
-  pub rest : line_records bytes ≡ done ++ numbered (count + 1) (map line_record (lines (drop at bytes)))
-  pub faults : fault bytes ≡ fault_from count (lines (drop at bytes))
+  pub all : line_records bytes ≡ done ++ numbered (count + 1) (map line_record (lines rest))
+  pub faults : fault bytes ≡ fault_from count (lines rest)
 
-pub gathering_start : (bytes l : List ℕ) → Gathering bytes l l 0 0
+pub gathering_start : (bytes l : List ℕ) {rest : List ℕ} → rest ≡ bytes → Gathering bytes l l rest 0
 unfolding line_records fault laid
-gathering_start bytes l =
-    record { few = zero-le; done = []; wide = tt; many = refl; same = refl; rest = refl; faults = refl }
-
-pub gathering_length : {bytes l now : List ℕ} {count at : ℕ} → Gathering bytes l now count at → length now ≡ length l
-gathering_length {bytes} {l} g = ap length g.same ∙ length-sets l 0 (laid g.done)
-
--- the line from a byte on, and those behind its line feed
-line_at :
-    (bytes : List ℕ) (at end : ℕ) → at < length bytes → end ≡ at + before line_feed (drop at bytes) →
-    lines (drop at bytes) ≡ take (end - at) (drop at bytes) ∷ lines (drop (end + 1) bytes)
-line_at bytes at end h e =
-    let k = before line_feed (drop at bytes) in
-    let s : end - at ≡ k = omega (arith, e) in
-    let f : at + suc k ≡ end + 1 = omega (arith, e) in
-    let split : lines (drop at bytes) ≡ take k (drop at bytes) ∷ lines (drop (suc k) (drop at bytes)) =
-    rw (drop-cons bytes at 0 h) (lines_next (get_or bytes at 0) (drop (suc at) bytes)) in
-    rw (s, ← f, ← drop-drop (suc k) at bytes) split
-
--- the record that was read of a line, and the line's number by it
-no_record : (u : Record) (line : List ℕ) → words_of u ≡ line_record line → u.kind ≡ 0 → line_record line ≡ []
-unfolding words_of
-no_record u line e z = sym e ∙ rw (eq-eqb u.kind 0 z)
-
-its_words : (u : Record) (line : List ℕ) → words_of u ≡ line_record line → u.kind ≢ 0 → line_record line ≡ u.kind ∷ u.term ∷ u.from ∷ u.to ∷ []
-unfolding words_of
-its_words u line e n = sym e ∙ rw (ne_eqb u.kind 0 n)
+gathering_start bytes l e =
+    record { few = zero-le; done = []; wide = tt; many = refl; same = refl; all = ap (λ bs. numbered 1 (map line_record (lines bs))) (sym e); faults = ap (λ bs. fault_from 0 (lines bs)) (sym e) }
 
 pub number_other : (i : ℕ) (line : List ℕ) → line_record line ≡ [] → line_number i line ≡ 12
 unfolding line_number first_of
@@ -79,45 +62,33 @@ pub fault_later : (i : ℕ) (line : List ℕ) (ls : List (List ℕ)) → line_nu
 unfolding fault_from
 fault_later i line ls e = rw e
 
-module _ {bytes l now : List ℕ} {count at end : ℕ} (u : Record) (g : Gathering bytes l now count at) (h : at < length bytes) (e : end ≡ at + before line_feed (drop at bytes)) (w : words_of u ≡ line_record (take (end - at) (drop at bytes))) where
-  abbrev line : List ℕ
-  line = take (end - at) (drop at bytes)
-
-  abbrev later : List (List ℕ)
-  later = lines (drop (end + 1) bytes)
-
-  faults_line : fault bytes ≡ fault_from count (line ∷ later)
-  faults_line = g.faults ∙ ap (fault_from count) (line_at bytes at end h e)
+module _ {bytes l now rest line : List ℕ} (after : List ℕ) {count : ℕ} (g : Gathering bytes l now rest count) (split : lines rest ≡ line ∷ lines after) where
+  faults_line : fault bytes ≡ fault_from count (line ∷ lines after)
+  faults_line = g.faults ∙ ap (fault_from count) split
 
   -- a refusal tells its line
-  faulty : (n : ℕ) → line_number count line ≡ suc n → Gathers bytes l (record { number = suc n; line = count + 1; count = 0 }) now
-  faulty n k =
-      let f = faults_line ∙ fault_here count line later k in
+  faulty : (r : Refusal) {n : ℕ} (f : Fault) → f ≡ record { refusal = r; line = count + 1 } → number r ≡ suc n → line_number count line ≡ suc n → HasFault bytes f
+  faulty r f is e k =
+      let h = faults_line ∙ fault_here count line (lines after) k in
       let one : count + 1 ≡ suc count = omega arith in
-      record {
-        of_number = sym (ap (λ x. x.number) f);
-        of_line = one ∙ sym (ap (λ x. x.line) f);
-        stand = λ z. absurd (omega (arith, z));
-        many = λ z. absurd (omega (arith, z));
-        few = zero-le;
-      }
+      rw is (record { of_number = e ∙ sym (ap (λ x. x.number) h); of_line = one ∙ sym (ap (λ x. x.line) h) })
 
-  pub gathering_other : u.kind ≡ 0 → Gathers bytes l (record { number = 12; line = count + 1; count = 0 }) now
-  gathering_other z = faulty 11 (number_other count line (no_record u line w z))
+  pub gathering_other : (f : Fault) → f ≡ record { refusal = OtherForm; line = count + 1 } → [] ≡ line_record line → HasFault bytes f
+  gathering_other f is e = faulty OtherForm f is refl (number_other count line (sym e))
 
-  some_words : u.kind ≢ 0 → 0 < length (line_record line)
-  some_words n = rw (its_words u line w n) (omega arith)
+  some_words : (u : Record) → words_of (Some u) ≡ line_record line → 0 < length (line_record line)
+  some_words u e = rw (← e) (omega arith)
 
-  pub gathering_many : u.kind ≢ 0 → count ≡ records_most → Gathers bytes l (record { number = 13; line = count + 1; count = 0 }) now
-  gathering_many n m = faulty 12 (rw m (number_many line (some_words n)))
+  pub gathering_many :
+      (f : Fault) → f ≡ record { refusal = TooManyLines; line = count + 1 } → (u : Record) → words_of (Some u) ≡ line_record line → count ≡ records_most → HasFault bytes f
+  gathering_many f is u e m = faulty TooManyLines f is refl (rw m (number_many line (some_words u e)))
 
   pub gathering_turn :
-      {after : List ℕ} → u.kind ≢ 0 → count ≢ records_most → after ≡ sets now (5 * count) (u.kind ∷ u.term ∷ u.from ∷ u.to ∷ (count + 1) ∷ []) →
-      Gathering bytes l after (count + 1) (end + 1)
-  gathering_turn {after} n m a =
-      let r = u.kind ∷ u.term ∷ u.from ∷ u.to ∷ (count + 1) ∷ [] in
+      {next : List ℕ} (u : Record) → words_of (Some u) ≡ line_record line → count ≢ records_most →
+      next ≡ sets now (5 * count) (kind_number u.kind ∷ u.term ∷ u.from ∷ u.to ∷ (count + 1) ∷ []) → Gathering bytes l next after (count + 1)
+  gathering_turn {next} u is m a =
+      let r = kind_number u.kind ∷ u.term ∷ u.from ∷ u.to ∷ (count + 1) ∷ [] in
       let done = g.done in
-      let is = its_words u line w n in
       let one : suc count ≡ count + 1 = omega arith in
       let two : suc (count + 1) ≡ count + 1 + 1 = omega arith in
       record {
@@ -127,25 +98,32 @@ module _ {bytes l now : List ℕ} {count at end : ℕ} (u : Record) (g : Gatheri
         many = length-append done (r ∷ []) ∙ omega (arith, g.many);
         same = sets_behind l 0 (laid done) r {w = 5 * count} g.same (laid_length 5 done g.wide ∙ ap (λ q. 5 * q) g.many) (rw zero-add a)
             ∙ ap (sets l 0) (sym (laid_append done (r ∷ []) ∙ ap (λ q. laid done ++ q) (laid_one r)));
-        rest = g.rest ∙ ap (λ ls. done ++ numbered (count + 1) (map line_record ls)) (line_at bytes at end h e)
-            ∙ ap (λ q. done ++ numbered (count + 1) (q ∷ map line_record later)) is
-            ∙ ap (λ q. done ++ q) (numbered_next (count + 1) (u.kind ∷ u.term ∷ u.from ∷ u.to ∷ []) (map line_record later))
-            ∙ ap (λ i. done ++ r ∷ numbered i (map line_record later)) two ∙ sym (append_assoc done (r ∷ []) (numbered (count + 1 + 1) (map line_record later)));
-        faults = faults_line ∙ fault_later count line later (number_none count line (some_words n) (omega (arith, g.few, m))) ∙ ap (λ i. fault_from i later) one;
+        all = g.all ∙ ap (λ ls. done ++ numbered (count + 1) (map line_record ls)) split
+            ∙ ap (λ q. done ++ numbered (count + 1) (q ∷ map line_record (lines after))) (sym is)
+            ∙ ap (λ q. done ++ q) (numbered_next (count + 1) (words_of (Some u)) (map line_record (lines after)))
+            ∙ ap (λ i. done ++ r ∷ numbered i (map line_record (lines after))) two ∙ sym (append_assoc done (r ∷ []) (numbered (count + 1 + 1) (map line_record (lines after))));
+        faults = faults_line ∙ fault_later count line (lines after) (number_none count line (some_words u is) (omega (arith, g.few, m))) ∙ ap (λ i. fault_from i (lines after)) one;
       }
 
-pub gathering_end :
-    {bytes l now : List ℕ} {count at : ℕ} → Gathering bytes l now count at → length bytes ≤ at →
-    Gathers bytes l (record { number = 0; line = 0; count = count }) now
+pub gathering_end : {bytes l now rest : List ℕ} {count : ℕ} → Gathering bytes l now rest count → length rest ≡ 0 → Gathers bytes l count now
 unfolding lines fault_from line_records numbered
-gathering_end {bytes} {l} {now} {count} {at} g h =
-    let none : drop at bytes ≡ [] = drop_of_length-le bytes h in
+gathering_end {bytes} {l} {now} {rest} {count} g h =
+    let none : rest ≡ [] = nil_from_length rest h in
     let f : fault bytes ≡ record { number = 0; line = 0 } = g.faults ∙ rw none in
-    let all : numbered 1 (map line_record (lines bytes)) ≡ g.done = g.rest ∙ rw none (append-nil g.done) in
+    let all : numbered 1 (map line_record (lines bytes)) ≡ g.done = g.all ∙ rw none (append-nil g.done) in
     record {
-      of_number = sym (ap (λ x. x.number) f);
-      of_line = sym (ap (λ x. x.line) f);
-      stand = λ z. g.same ∙ ap (λ q. sets l 0 (laid q)) (sym all);
-      many = λ z. sym g.many ∙ ap length (sym all) ∙ numbered_length 1 (map line_record (lines bytes)) ∙ length-map (lines bytes) line_record;
+      faultless = ap (λ x. x.number) f;
+      stand = g.same ∙ ap (λ q. sets l 0 (laid q)) (sym all);
+      many = sym g.many ∙ ap length (sym all) ∙ numbered_length 1 (map line_record (lines bytes)) ∙ length-map (lines bytes) line_record;
       few = g.few;
     }
+
+-- the fault that `ok_or` gives where there is no record is handed on
+pub record_refused :
+    {bytes : List ℕ} {f : Fault} {o : Option Record} (r : Result ℕ Fault) (e : Fault) → IsErrAnd r (λ x. x ≡ e) → Err e ≡ ok_or o f → o ≡ None → HasFault bytes f →
+    IfErr r (HasFault bytes)
+record_refused (Ok n) e k v w h = absurd k
+record_refused {bytes} {f} (Err x) e k v w h =
+    let m = v ∙ ap (λ o. ok_or o f) w in
+    let s : f ≡ x = cc in
+    subst (HasFault bytes) s h

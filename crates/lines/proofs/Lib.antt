@@ -7,3 +7,4 @@ pub mod Room
 pub mod Settled
 pub mod Splitting
 pub mod Written
+pub mod Fields

@@ -1,14 +1,14 @@
 -- A line that is a record is short, so the beginning of a file settles it.
-use Prim.Native.Nat.{ℕ, zero, suc, ◌+◌, ◌*◌, ◌-◌, ◌≤◌, ◌<◌, zero-le}
+use Prim.Native.Nat.{ℕ, zero, suc, ◌+◌, ◌*◌, ◌-◌, ◌≤◌, ◌<◌, min, zero-le}
 use native.Mathlib.Omega.{arith}
 use mathlib.Core.Path.{◌≡◌, refl, sym, ap, ◌∙◌}
 use mathlib.Core.Logic.{◌≢◌, ◌⊎◌, inl, inr, ⊎_elim}
 use mathlib.Core.Bool.{Bool, true, false, cond, ◌&&◌, and-false}
 use mathlib.Core.List.{List, [], ◌∷◌}
-use borrow.Author.Tests.{ltb-true, ltb-false, ne_eqb, eqb-true, eqb-false}
+use borrow.Author.Tests.{leb-true, leb-false, ltb-true, ltb-false, ne_eqb, eqb-true, eqb-false}
 use lib.ListN.{length, take, drop, length-drop}
 use lib.Seq.{take_all, take-nil, take-take, length-take-le}
-use lib.Dec.{ltb, eqb}
+use lib.Dec.{leb, ltb, eqb}
 use Rattle.pair.specs.Tests.{same, first_of}
 use Rattle.pair.proofs.Lists.{drop_take}
 use Rattle.pair.proofs.Tests.{and_left, and_right, contradiction}
@@ -18,11 +18,10 @@ use Rattle.figures.proofs.Figures.{decimal_few}
 use Rattle.figures.proofs.Claims.{numbers_only}
 use Rattle.lines.specs.Lines.{tab, line_feed, letter_a, letter_r, longer, lines, fields, record_of, line_record, line_number, fault_from, fault, scores_number, scored}
 use Rattle.lines.specs.Claims.{LinesShort, settling_bytes, FileSettled}
-use Rattle.lines.specs.code.Gathering.{before}
 use Rattle.lines.proofs.Lines.{fields_some}
 use Rattle.lines.proofs.Gathering.{number_other, fault_here, fault_later}
 use Rattle.lines.proofs.Room.{numberless_few}
-use Rattle.lines.proofs.Splitting.{before_most, before_mark, before_pass, before_none, lines_next}
+use Rattle.lines.proofs.Splitting.{before, before_most, before_mark, before_pass, before_none, lines_next}
 
 -- a number has at most ten figures
 number_short : (bs : List ℕ) → is_number bs ≡ true → length bs ≤ 10
@@ -263,3 +262,16 @@ file_settled bytes batch = go (eqb (fault bytes).number 0) refl
         let e = fault_settled bytes in
         scored_faulty bytes batch n ∙ ap (λ f. record { number = f.number; words = 0; line = f.line; batch = batch }) e
         ∙ sym (scored_faulty (take settling_bytes bytes) batch (λ z. n (ap (λ f. f.number) e ∙ z)))
+
+-- nor what is behind as many of the bytes as there are
+pub part_settled : (bytes batch : List ℕ) → scored (take (min (length bytes) settling_bytes) bytes) batch ≡ scored bytes batch
+unfolding FileSettled
+part_settled bytes batch = go (leb settling_bytes (length bytes)) refl
+  where
+    go : (t : Bool) → leb settling_bytes (length bytes) ≡ t → scored (take (min (length bytes) settling_bytes) bytes) batch ≡ scored bytes batch
+    go true e =
+        let m : min (length bytes) settling_bytes ≡ settling_bytes = omega (arith, leb-true settling_bytes (length bytes) e) in
+        ap (λ n. scored (take n bytes) batch) m ∙ sym (file_settled bytes batch)
+    go false e =
+        let l = leb-false settling_bytes (length bytes) e in
+        ap (λ l. scored l batch) (take_all (min (length bytes) settling_bytes) bytes (omega (arith, l)))

@@ -17,9 +17,8 @@ use Rattle.figures.proofs.Reading.{number_figures}
 use Rattle.figures.proofs.Claims.{numbers_read, numbers_only}
 use Rattle.lines.specs.Lines.{tab, letter_a, letter_r, longer, fields, record_of, line_record}
 use Rattle.lines.specs.Claims.{addition_line, removal_line, LinesRead, LinesOnly}
-use Rattle.lines.specs.code.Gathering.{before}
 use Rattle.lines.proofs.Lines.{fields_some, addition_fields, removal_fields, line_letter}
-use Rattle.lines.proofs.Splitting.{before_mark, before_pass, fields_next}
+use Rattle.lines.proofs.Splitting.{before, before_mark, before_pass, fields_next}
 
 -- figures before a tab are the first field
 before_figures : (xs ys : List ℕ) → all_figures xs ≡ true → before tab (xs ++ tab ∷ ys) ≡ length xs

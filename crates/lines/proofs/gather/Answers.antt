@@ -1,34 +1,29 @@
 -- `lines::gather` meets its contract. The invariant of its loop, Gathering: the records of count lines stand in the memory.
-use Prim.Native.Nat.{◌+◌}
-use native.Mathlib.Omega.{arith}
-use Rattle.lines.specs.Lines.{line_feed}
-use Rattle.lines.proofs.Lines.{found_inside}
-use Rattle.lines.proofs.Gathering.{Gathering, gathering_start, gathering_other, gathering_many, gathering_turn, gathering_end}
+use Rattle.std.proofs.Common.{rules, ◌∙◌, sym, ap}
+use Rattle.std.specs.Slice.Iter.{split_inclusive_rest}
+use Rattle.lines.specs.code.Gathering.{words_of}
+use Rattle.lines.proofs.Fields.{first_line}
+use Rattle.lines.proofs.Gathering.{gathering_start, gathering_other, gathering_many, gathering_turn, gathering_end, record_refused}
 use Rattle.lines.proofs.gather.Goals as goal
 
-pub loop-at-init : goal.loop-at-init
-loop-at-init c = gathering_start _ _
+pub loop-piece-init : goal.loop-piece-init
+loop-piece-init c =
+    gathering_start _ _ (ap split_inclusive_rest c.into_iter-piece-iterator.ensures.into_iter_gives ∙ c.split_inclusive-piece-items.ensures.rest)
 
-pub slice_bounds-read_line-end : goal.slice_bounds-read_line-end
-slice_bounds-read_line-end c = found_inside line_feed _ _ (let h = c.loop-at-test.true in omega (arith, h)) c.before-end.ensures
+pub returns-in_err-record-clause-faulty : goal.returns-in_err-record-clause-faulty
+returns-in_err-record-clause-faulty c =
+    let line = first_line (split_inclusive_rest c.next.new.self) c.in-Some.piece c.strip_suffix.result c.unwrap_or-text.result c.in-Some.ensures.steps (λ x b q k. search rules) c.strip_suffix.ensures.cases c.unwrap_or-text.ensures in
+    record_refused c.from_residual.result c.in_err-record.field-0.0 c.from_residual.ensures.1 c.in_err-record.ensures.value c.in_err-record.ensures.ok_part (gathering_other _ c.loop-piece.invariant line c.at.result c.at.ensures (ap words_of (sym c.in_err-record.ensures.ok_part) ∙ c.read_line.ensures))
 
-pub returns-then-kind-eq0 : goal.returns-then-kind-eq0
-returns-then-kind-eq0 c = gathering_other c.read_line-u.result c.loop-at.invariant c.loop-at-test.true c.before-end.ensures c.read_line-u.ensures c.if-kind-eq0.true
+pub returns-then-count-eq-RECORDS_MOST-clause-faulty : goal.returns-then-count-eq-RECORDS_MOST-clause-faulty
+returns-then-count-eq-RECORDS_MOST-clause-faulty c =
+    let line = first_line (split_inclusive_rest c.next.new.self) c.in-Some.piece c.strip_suffix.result c.unwrap_or-text.result c.in-Some.ensures.steps (λ x b q k. search rules) c.strip_suffix.ensures.cases c.unwrap_or-text.ensures in
+    gathering_many _ c.loop-piece.invariant line c.at-then-count-eq-RECORDS_MOST.result c.at-then-count-eq-RECORDS_MOST.ensures c.in_ok-record.record (ap words_of (sym c.in_ok-record.ensures.ok_part) ∙ c.read_line.ensures) c.if-count-eq-RECORDS_MOST.true
 
-pub returns-then-count-eq-RECORDS_MOST : goal.returns-then-count-eq-RECORDS_MOST
-returns-then-count-eq-RECORDS_MOST c = gathering_many c.read_line-u.result c.loop-at.invariant c.loop-at-test.true c.before-end.ensures c.read_line-u.ensures c.if-kind-eq0.false c.if-count-eq-RECORDS_MOST.true
+pub loop-piece-preserved : goal.loop-piece-preserved
+loop-piece-preserved c =
+    let line = first_line (split_inclusive_rest c.next.new.self) c.in-Some.piece c.strip_suffix.result c.unwrap_or-text.result c.in-Some.ensures.steps (λ x b q k. search rules) c.strip_suffix.ensures.cases c.unwrap_or-text.ensures in
+    gathering_turn _ c.loop-piece.invariant line c.in_ok-record.record (ap words_of (sym c.in_ok-record.ensures.ok_part) ∙ c.read_line.ensures) c.if-count-eq-RECORDS_MOST.false c.put_record.ensures
 
-pub loop-at-preserved : goal.loop-at-preserved
-loop-at-preserved c =
-    let turn : Gathering c.args.bytes.now c.args.records.now c.put_record.new.records (c.loop-at.count + 1) (c.before-end.result + 1) =
-    gathering_turn c.read_line-u.result c.loop-at.invariant c.loop-at-test.true c.before-end.ensures c.read_line-u.ensures c.if-kind-eq0.false c.if-count-eq-RECORDS_MOST.false c.put_record.ensures in
-    turn
-
-pub returns-after-loop-at : goal.returns-after-loop-at
-returns-after-loop-at c = gathering_end c.loop-at.invariant c.loop-at-test.false
-
-pub returns-then-end-bytes : goal.returns-then-end-bytes
-returns-then-end-bytes c =
-    let turn : Gathering c.args.bytes.now c.args.records.now c.put_record.new.records (c.loop-at.count + 1) (c.before-end.result + 1) =
-    gathering_turn c.read_line-u.result c.loop-at.invariant c.loop-at-test.true c.before-end.ensures c.read_line-u.ensures c.if-kind-eq0.false c.if-count-eq-RECORDS_MOST.false c.put_record.ensures in
-    gathering_end turn (omega (arith, c.if-end-bytes.true))
+pub returns-clause-gathered : goal.returns-clause-gathered
+returns-clause-gathered c = gathering_end c.loop-piece.invariant c.in-None.ensures.steps.0
