@@ -291,19 +291,19 @@ pub record Taking (c : List ℕ) (w now : Walk) (n : ℕ) : Type 0 where
   pub all : ahead c w ≡ done ++ ahead c now
   pub count : n ≡ length done
 
-pub taking_start : {c : List ℕ} {w : Walk} → ReadyWalk c w → Taking c w w 0
+unfoldable pub taking_start : {c : List ℕ} {w : Walk} → ReadyWalk c w → Taking c w w 0
 taking_start r = record { ready = r; done = []; all = refl; count = refl }
 
 module _ {c : List ℕ} {w now rest : Walk} {n : ℕ} {x : Part} (g : Taking c w now n) (h : NextRun c now x rest) where
-  all_run : ahead c w ≡ (g.done ++ take x.len (drop x.start c)) ++ ahead c rest
+  pub all_run : ahead c w ≡ (g.done ++ take x.len (drop x.start c)) ++ ahead c rest
   all_run =
       g.all ∙ ap (λ l. g.done ++ l) (h.rest g.ready) ∙ sym (append_assoc g.done (take x.len (drop x.start c)) (ahead c rest))
 
-  count_run : length (g.done ++ take x.len (drop x.start c)) ≡ n + x.len
+  pub count_run : length (g.done ++ take x.len (drop x.start c)) ≡ n + x.len
   count_run = length-append g.done (take x.len (drop x.start c)) ∙ rw (← g.count, length_part c x.start x.len h.inside)
 
   -- a run more
-  pub taking_turn : Taking c w rest (n + x.len)
+  unfoldable pub taking_turn : Taking c w rest (n + x.len)
   taking_turn = record { ready = h.ready g.ready; done = g.done ++ take x.len (drop x.start c); all = all_run; count = sym count_run }
 
   pub taking_most : n + x.len ≤ length (ahead c w)

@@ -18,7 +18,6 @@ use Rattle.refusal.proofs.Numbers.{number_positive}
 use Rattle.wanted.specs.declared.Part.{Part}
 use Rattle.found.specs.declared.walk.Walk.{Walk}
 use Rattle.found.specs.declared.walk.WalkCount.{WalkCount}
-use Rattle.found.specs.declared.walk.Run.{Run}
 use Rattle.lookup.specs.declared.Found.{Found}
 use Rattle.lookup.specs.Answer.{Answered, part_of}
 use Rattle.found.specs.Views.{run, run_start, Viewed}
@@ -63,15 +62,15 @@ answered_found {c} {t} {a} {z} ans {after} {r} e w s g =
 
 -- The run view is the first run of the walk,
 pub viewed_run :
-    {c : List ℕ} {t a z : ℕ} {w : Walk} {r : Run Walk} → 0 ≡ question_number c t a z → LookupWalk c t a z w → NextRun c w r →
-    Viewed c t a z 0 r.part.start r.part.len
-viewed_run {c} {t} {a} {z} {w} {r} e o x =
-    let same : take r.part.len (drop r.part.start c) ≡ run c t a z = x.run o.ready ∙ o.run in
+    {c : List ℕ} {t a z : ℕ} {w behind : Walk} {x : Part} → 0 ≡ question_number c t a z → LookupWalk c t a z w → NextRun c w x behind →
+    Viewed c t a z 0 x.start x.len
+viewed_run {c} {t} {a} {z} {w} {x = x} e o n =
+    let same : take x.len (drop x.start c) ≡ run c t a z = n.run o.ready ∙ o.run in
     record {
       of_number = e;
-      of_start = x.starts o.ready ∙ o.start;
-      of_length = sym (length_part c r.part.start r.part.len x.inside) ∙ ap length same;
-      inside = x.inside;
+      of_start = n.starts o.ready ∙ o.start;
+      of_length = sym (length_part c x.start x.len n.inside) ∙ ap length same;
+      inside = n.inside;
       part = same;
     }
 

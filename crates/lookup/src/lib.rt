@@ -10,8 +10,8 @@ ghost use Rattle.found.specs.Views.{run, run_start, Viewed};
 ghost use Rattle.lookup.specs.Answer.{Answered, part_of};
 
 use crate::taking::copy_ahead;
-use found::check_question;
-use found::walk::{WalkCount, next_run, start_counted, start_walk};
+use found::Question;
+use found::walk::WalkCount;
 use pair::Pair;
 use refusal::Refusal;
 use wanted::Part;
@@ -25,17 +25,11 @@ pub struct Found {
     pub blocks: u32,
 }
 
-// Writes the live positions of the term, from one to another, into the first answer words.
-pub fn lookup(
-    card: &[u32],
-    term: u32,
-    from: u32,
-    to: u32,
-    answer: &mut [u32],
-) -> Result<Found, Refusal>
-    ensures { Answered (lookup card.now term from to answer.old) result answer.new }
+// Writes the live positions that a question asks for into the first answer words.
+pub fn lookup(card: &[u32], q: Question, answer: &mut [u32]) -> Result<Found, Refusal>
+    ensures { Answered (lookup card.now q.term q.from q.to answer.old) result answer.new }
 {
-    let WalkCount { walk, count } = start_counted(card, term, from, to)?;
+    let WalkCount { walk, count } = q.counted_walk(card)?;
     if answer.len() < count {
         return Err(Refusal::TooFewWords);
     }
@@ -50,35 +44,38 @@ pub fn lookup(
 pub fn lookup_all(card: &[u32], term: u32, answer: &mut [u32]) -> Result<Found, Refusal>
     ensures { Answered (lookup card.now term lowest.position highest.position answer.old) result answer.new }
 {
-    let low = Pair::LOWEST;
-    let high = Pair::HIGHEST;
-    lookup(card, term, low.position, high.position, answer)
+    let q = Question {
+        term,
+        from: Pair::LOWEST.position,
+        to: Pair::HIGHEST.position,
+    };
+    lookup(card, q, answer)
 }
 
 // The part of the card that has the wanted live positions of the first block that has any, new segment before old; an empty part where none has.
-pub fn run_part(card: &[u32], term: u32, from: u32, to: u32) -> Result<Part, Refusal>
-    ensures { Viewed card.now term from to (number_of result) (part_of result).start (part_of result).len }
+pub fn run_part(card: &[u32], q: Question) -> Result<Part, Refusal>
+    ensures { Viewed card.now q.term q.from q.to (number_of result) (part_of result).start (part_of result).len }
 {
-    let walk = start_walk(card, term, from, to)?;
-    match next_run(card, walk) {
-        Some(run) => Ok(run.part),
+    let mut walk = q.walk(card)?;
+    match walk.next_run(card) {
+        Some(part) => Ok(part),
         None => Ok(Part { start: 0, len: 0 }),
     }
 }
 
 // The number of a run view.
-pub fn run_view_number(card: &[u32], term: u32, from: u32, to: u32) -> u32
-    ensures { result ≡ question_number card.now term from to }
+pub fn run_view_number(card: &[u32], q: Question) -> u32
+    ensures { result ≡ question_number card.now q.term q.from q.to }
 {
-    refusal::number_of(check_question(card, term, from, to))
+    refusal::number_of(q.check(card))
 }
 
 // The run view as a part of the card itself.
-pub fn run_view(card: &[u32], term: u32, from: u32, to: u32) -> &[u32]
-    ensures result_value { result.now ≡ run card.now term from to }
-    ensures ref_ptr_value { result.ref_ptr ≡ (card.entry.ref_ptr.0, run_start card.now term from to * 4 + card.entry.ref_ptr.1) }
+pub fn run_view(card: &[u32], q: Question) -> &[u32]
+    ensures result_value { result.now ≡ run card.now q.term q.from q.to }
+    ensures ref_ptr_value { result.ref_ptr ≡ (card.entry.ref_ptr.0, run_start card.now q.term q.from q.to * 4 + card.entry.ref_ptr.1) }
 {
-    let Ok(part) = run_part(card, term, from, to) else {
+    let Ok(part) = run_part(card, q) else {
         return &card[0..0];
     };
     &card[part.start..part.start + part.len]
