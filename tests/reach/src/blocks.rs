@@ -63,6 +63,7 @@ impl Parser<'_> {
     }
 
     fn for_(&mut self) -> Outcome<()> {
+        self.mention(self.line(), Mention::For);
         let bound = self.pattern_apart()?;
         if !self.take_word("in")? {
             return self.unknown("\"in\"");

@@ -3,7 +3,7 @@
 
 use crate::lex::{self, Token};
 use crate::parse::{Outcome, Parser};
-use crate::tree::{Constant, Declared, Function, Import, Item, Mention, Path};
+use crate::tree::{Constant, Declared, Function, Import, Item, Mention, Path, Trait};
 
 const DERIVES: [&str; 6] = ["Drop", "Debug", "PartialEq", "Eq", "PartialOrd", "Ord"];
 
@@ -185,10 +185,16 @@ impl Parser<'_> {
     fn implementation(&mut self, line: usize) -> Outcome<Item> {
         let parameters = self.parameters()?;
         let mut target = self.path(true)?;
-        let is_conversion = target.single() == Some("From") && self.take_word("for")?;
-        if is_conversion {
+        let mut of_trait = match target.single() {
+            Some("From") => Some(Trait::From),
+            Some("Iterator") => Some(Trait::Iterator),
+            _ => None,
+        };
+        if of_trait.is_some() && self.take_word("for")? {
             self.mentioned();
             target = self.path(true)?;
+        } else {
+            of_trait = None;
         }
         if !self.mentioned().is_empty() {
             return self.unknown("a type without type arguments before this");
@@ -196,20 +202,24 @@ impl Parser<'_> {
         self.expect("{")?;
         let mut items = Vec::new();
         while !self.take("}")? {
-            if is_conversion && self.at_word("ghost") {
+            if self.at_word("ghost") {
                 self.pass(lex::pass_line)?;
                 continue;
             }
             self.attributes()?;
             self.visibility()?;
-            items.push(self.function_or_constant()?);
+            if of_trait.is_some() && self.at_word("type") {
+                items.push(Item::Declared(self.declared()?));
+            } else {
+                items.push(self.function_or_constant()?);
+            }
         }
         Ok(Item::Implementation {
             target,
             parameters,
             line,
             items,
-            is_conversion,
+            of_trait,
         })
     }
 
@@ -303,10 +313,24 @@ impl Parser<'_> {
     }
 
     fn field(&mut self) -> Outcome<()> {
+        if self.at_word("ghost") && matches!(self.ahead()?, Token::Name(_)) {
+            return self.ghost_field();
+        }
         self.visibility()?;
         self.name()?;
         self.expect(":")?;
         self.type_()
+    }
+
+    // A fact that each value keeps, which is of the other language: `ghost NAME: {..}`.
+    fn ghost_field(&mut self) -> Outcome<()> {
+        self.advance()?;
+        self.name()?;
+        self.expect(":")?;
+        if !self.at("{") {
+            return self.unknown("\"{\"");
+        }
+        self.pass(lex::pass_clause)
     }
 
     // A field of a tuple struct.

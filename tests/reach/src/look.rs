@@ -4,31 +4,50 @@ use std::collections::{BTreeMap, BTreeSet};
 
 use crate::names::Space;
 use crate::program::{Definition, Home, Placed, Program};
-use crate::tree::{Function, Mention, Mentions, Path};
+use crate::tree::{Function, Mention, Mentions, Path, Trait};
 
-// Methods of built-in types and of the library's that make no array.
-const BUILT_IN_METHODS: [&str; 22] = [
+// Methods of built-in types and of the library's. None makes an array; those over an iterator call
+// what implements one.
+const BUILT_IN_METHODS: [&str; 40] = [
     "all",
     "any",
+    "checked_add",
+    "checked_mul",
+    "checked_sub",
     "copied",
     "copy_from_slice",
+    "count",
     "enumerate",
+    "fill",
+    "find",
     "first",
     "fold",
+    "get",
     "is_empty",
     "is_err",
     "is_none",
     "is_ok",
     "is_some",
     "iter",
+    "iter_mut",
     "last",
     "len",
     "map",
     "max",
     "min",
+    "next",
+    "nth",
+    "ok",
+    "ok_or",
     "partition_point",
+    "position",
+    "rev",
     "saturating_sub",
     "sum",
+    "take",
+    "then",
+    "then_some",
+    "unwrap_or",
     "zip",
 ];
 
@@ -143,7 +162,7 @@ impl Look {
                     self.faults.push((line, words));
                 }
                 if matches!(meant, Ok(Definition::Conversion)) {
-                    self.conversions(program, home, line);
+                    self.of_trait(program, home, line, Trait::From);
                 }
                 self.value(line, path.last(), meant);
             }
@@ -159,6 +178,7 @@ impl Look {
                 let meant = program.resolve(home, path, Space::Types);
                 self.type_(line, path, meant, false);
             }
+            Mention::For => self.of_trait(program, home, line, Trait::Iterator),
             Mention::Text
             | Mention::Binding(_)
             | Mention::Enter
@@ -188,12 +208,13 @@ impl Look {
         }
     }
 
-    // An operator `?` and a conversion may call any of the conversions that the crate can see.
-    fn conversions(&mut self, program: &Program, home: &Home, line: usize) {
+    // What calls a function of a trait may call that of any implementation that the crate can see.
+    fn of_trait(&mut self, program: &Program, home: &Home, line: usize, of_trait: Trait) {
         let crates = program.crates_of(&program.modules[home.module].of_crate);
-        for id in &program.conversions {
+        for (other, id) in &program.of_traits {
             let placed = &program.functions[*id];
-            if crates.contains(&program.modules[placed.home.module].of_crate) {
+            if *other == of_trait && crates.contains(&program.modules[placed.home.module].of_crate)
+            {
                 self.refer(line, &placed.item.name, Definition::Function(*id));
             }
         }
@@ -206,7 +227,7 @@ impl Look {
             if matches!(program.resolve(home, path, Space::Types), Ok(Definition::Library(_))));
         for (line, mention) in &placed.item.body {
             match mention {
-                Mention::Question if is_library => self.conversions(program, home, *line),
+                Mention::Question if is_library => self.of_trait(program, home, *line, Trait::From),
                 Mention::Question => self.faults.push((*line, "an operator ?".to_string())),
                 _ => {}
             }
@@ -234,10 +255,11 @@ impl Look {
         let mut known = BUILT_IN_METHODS.contains(&name);
         if known {
             self.names.insert(name.to_string());
+            self.of_trait(program, home, line, Trait::Iterator);
         }
         if name == "into" {
             self.names.insert(name.to_string());
-            self.conversions(program, home, line);
+            self.of_trait(program, home, line, Trait::From);
             known = true;
         }
         for ((owner, member), definition) in &program.members {

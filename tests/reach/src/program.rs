@@ -7,7 +7,7 @@ use std::collections::{BTreeMap, BTreeSet};
 use crate::items;
 use crate::lex::Fault;
 use crate::source::Source;
-use crate::tree::{Constant, Declared, Function, Import, Item, Path};
+use crate::tree::{Constant, Declared, Function, Import, Item, Path, Trait};
 
 #[derive(Clone, Copy, Debug, PartialEq, Eq, PartialOrd, Ord)]
 pub enum Definition {
@@ -82,7 +82,7 @@ struct Implementation {
     line: usize,
     items: Vec<Item>,
     home: Home,
-    is_conversion: bool,
+    of_trait: Option<Trait>,
 }
 
 #[derive(Default)]
@@ -96,8 +96,8 @@ pub struct Program {
     pub dependencies: BTreeMap<String, Vec<String>>,
     // What stands in implementations, by type and name.
     pub members: BTreeMap<(usize, String), Definition>,
-    // The functions of the implementations that make one type of another.
-    pub conversions: Vec<usize>,
+    // The functions of the implementations of traits.
+    pub of_traits: Vec<(Trait, usize)>,
     pub faults: Vec<Fault>,
     implementations: Vec<Implementation>,
     // The imports that are being resolved, as types or as values: none stands for itself.
@@ -188,7 +188,7 @@ impl Program {
                     parameters,
                     line,
                     items,
-                    is_conversion,
+                    of_trait,
                 } => {
                     let mut home = home.clone();
                     home.parameters = parameters;
@@ -197,7 +197,7 @@ impl Program {
                         line,
                         items,
                         home,
-                        is_conversion,
+                        of_trait,
                     });
                 }
                 Item::Module { name, line, items } => {
@@ -284,10 +284,10 @@ impl Program {
             line,
             items,
             mut home,
-            is_conversion,
+            of_trait,
         } = implementation;
-        if is_conversion {
-            return self.convert(&target, items, home);
+        if let Some(of_trait) = of_trait {
+            return self.implement_trait(of_trait, &target, items, home);
         }
         match self.type_of(&home, &target) {
             Ok(owner) => {
@@ -300,16 +300,22 @@ impl Program {
         }
     }
 
-    // Keeps what makes a type of another. It is no name of a module: a call of `from` or `into` and
-    // an operator `?` may mean any of these.
-    fn convert(&mut self, target: &Path, items: Vec<Item>, mut home: Home) {
+    // Keeps the functions of a trait's implementation. They are no names of a module, nor members:
+    // whatever calls one may call any of the trait's.
+    fn implement_trait(
+        &mut self,
+        of_trait: Trait,
+        target: &Path,
+        items: Vec<Item>,
+        mut home: Home,
+    ) {
         let before = format!("{}::{}", self.modules[home.module].path, target.text());
         home.owner = self.type_of(&home, target).ok();
         for item in items {
             if let Item::Function(item) = item {
                 let (name, line) = (item.name.clone(), item.line);
                 let id = keep(&mut self.functions, item, &before, &name, line, &home);
-                self.conversions.push(id);
+                self.of_traits.push((of_trait, id));
             }
         }
     }

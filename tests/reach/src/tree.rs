@@ -47,6 +47,8 @@ pub enum Mention {
     Leave,
     // An operator `?`.
     Question,
+    // A `for`, which takes what an iterator gives.
+    For,
     // What cannot be resolved whatever the names mean.
     Refused(&'static str),
 }
@@ -94,6 +96,14 @@ pub struct Constant {
     pub value: usize,
 }
 
+// The traits of the library's whose implementations are read: what is called by `from`, `into` and
+// `?`, and what is called by `for` and by the library's methods over an iterator.
+#[derive(Clone, Copy, Debug, PartialEq, Eq)]
+pub enum Trait {
+    From,
+    Iterator,
+}
+
 // A name that a `use` brings; `*` for all names.
 #[derive(Clone, Debug)]
 pub struct Import {
@@ -119,7 +129,6 @@ pub enum Item {
         parameters: Vec<String>,
         line: usize,
         items: Vec<Item>,
-        // Whether it says how the type is made of another: `impl From<..> for ..`.
-        is_conversion: bool,
+        of_trait: Option<Trait>,
     },
 }
