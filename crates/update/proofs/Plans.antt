@@ -2,12 +2,14 @@
 use Prim.Native.Nat.{ℕ, ◌+◌, ◌-◌, ◌≤◌, ◌<◌}
 use native.Mathlib.Omega.{arith}
 use mathlib.Core.Path.{◌≡◌, refl, sym, ap, ◌∙◌}
-use mathlib.Core.Bool.{Bool, true, false, cond}
-use mathlib.Core.List.{List, [], ◌∷◌}
-use lib.ListN.{length, take, get_or, set}
-use lib.Seq.{take-length}
+use mathlib.Core.Bool.{Bool, true, false, cond, not, ◌&&◌}
+use mathlib.Core.List.{List, [], ◌∷◌, ◌++◌, append_assoc}
+use borrow.Rule.Slice.PartMut.{put_mid}
+use lib.ListN.{length, take, drop, get_or, set}
+use lib.Seq.{take-length, sets, sets-eq, drop-drop}
 use lib.Dec.{leb, eqb}
-use borrow.Author.Tests.{eq-eqb, ne_eqb, eqb-false, le-leb, lt-leb, le-ltb}
+use lib.Pointwise.{pointwise}
+use borrow.Author.Tests.{eq-eqb, ne_eqb, eqb-false, le-leb, lt-leb, le-ltb, not-true, not-false}
 use Rattle.pair.specs.Rank.{term, position, Proper}
 use Rattle.pair.specs.Rising.{Each, last}
 use Rattle.pair.specs.Tests.{same}
@@ -17,7 +19,7 @@ use Rattle.card.specs.declared.layout.Configuration.{Configuration}
 use Rattle.card.specs.Layout.{configuration_list, format, block_size, place_count, start_of_old, length_of_old, length_of_new, entry_at, entry, place_at, place, old_places, due_place}
 use Rattle.card.specs.code.Configuration.{put, Ordered}
 use Rattle.card.proofs.Circle.{length_around}
-use Rattle.card.proofs.Facts.{Facts}
+use Rattle.card.proofs.Facts.{Facts, facts}
 use Rattle.card.proofs.Ordered.{shaped, place_on_law}
 use Rattle.pair.proofs.Lists.{part_sets_same}
 use Rattle.card.proofs.Parts.{place_inside, entry_inside, width_low}
@@ -36,6 +38,31 @@ use Rattle.update.proofs.Steps.{step_sound}
 use Rattle.update.proofs.Grown.{due_first}
 use Rattle.update.proofs.Spent.{spent_length}
 use Rattle.update.proofs.Writes.{length_due_block_law, next_write_law, due_inside}
+
+-- the blocks of a sound card are large enough for a pair
+pub large : (c : List ℕ) → judged c ≡ 0 → 8 ≤ block_size c
+large c j = (facts c j).size_low
+
+-- a comparison of slices is the definition's
+pub same_slices : (xs ys : List ℕ) → pointwise eqb xs ys ≡ same xs ys
+unfolding same
+same_slices [] [] = refl
+same_slices [] (y ∷ ys) = refl
+same_slices (x ∷ xs) [] = refl
+same_slices (x ∷ xs) (y ∷ ys) = ap (λ t. eqb x y && t) (same_slices xs ys)
+
+pub differs : {xs ys us vs : List ℕ} → true ≡ not (pointwise eqb us vs) → us ≡ xs → vs ≡ ys → same xs ys ≡ false
+differs {xs} {ys} {us} {vs} h e q = rw (← e, ← q, ← same_slices us vs) (not-true _ (sym h))
+
+pub agrees : {xs ys us vs : List ℕ} → false ≡ not (pointwise eqb us vs) → us ≡ xs → vs ≡ ys → same xs ys ≡ true
+agrees {xs} {ys} {us} {vs} h e q = rw (← e, ← q, ← same_slices us vs) (not-false _ (sym h))
+
+-- a part of a slice is written whole
+pub part_written : (l vs : List ℕ) (a n : ℕ) → length vs ≡ n → a + n ≤ length l → put_mid a (a + n - a) l vs ≡ sets l a vs
+part_written l vs a n e h =
+    let k : a + n - a ≡ length vs = omega arith in
+    sym (sets-eq vs l a (omega arith) ∙ append_assoc (take a l) vs (drop (a + length vs) l)
+    ∙ rw k (ap (λ d. take a l ++ (vs ++ d)) (sym (drop-drop (length vs) a l))))
 
 -- the old places that are freed, where pairs stand beyond the due block and where none do
 pub freed_more : (c : List ℕ) (d : Due) → d.more ≡ true → Freed c d (spent c d.last (old_places c))

@@ -13,7 +13,7 @@ use Rattle.card.specs.Layout.{block_size}
 use Rattle.card.specs.Sound.{judged}
 use Rattle.card.specs.code.Configuration.{ConfigurationOf}
 use Rattle.card.proofs.Facts.{facts}
-use Rattle.std.proofs.Common.{Result, Err, ◌<◌, ◌≤◌, arith}
+use Rattle.std.proofs.Common.{Result, Err, ◌≤◌, arith}
 use Rattle.std.specs.Result.{IsErrAnd}
 use Rattle.std.proofs.lemmas.Result.{err_from_is_err_and}
 use Rattle.refusal.specs.declared.Refusal.{Refusal}

@@ -109,6 +109,7 @@ const NOTHING: Filling = Filling {
 };
 
 // One block more, whose configuration write leaves so many old places.
+#[tactic(auto, unfolding(crate::specs::code::Tally::free_with))]
 fn count_block(k: Configuration, tally: Tally, spent: Spent, held: u16) -> Tally
     requires { tally.blocks ≤ blocks_most }
     ensures { result ≡ counted k tally spent held }
@@ -117,7 +118,7 @@ fn count_block(k: Configuration, tally: Tally, spent: Spent, held: u16) -> Tally
     let free = tally.free;
     let blocks = before + 1;
     let taken = held as u32 + k.new_length as u32 + blocks;
-    if (free == before) & (taken < k.places as u32) {
+    if free == before && taken < k.places as u32 {
         return Tally {
             blocks,
             free: blocks,
@@ -304,6 +305,7 @@ fn step_limit(blocks: u32) -> u32
 }
 
 // The answer where all blocks are counted.
+#[tactic(auto, unfolding(crate::specs::Forecast::foreseen))]
 fn answer(tally: Tally) -> Outlook
     requires { tally.blocks ≤ blocks_most + 1 }
     ensures { told_by result ≡ foreseen tally.blocks (limit_for tally.blocks) tally.free }

@@ -3,9 +3,7 @@
 #![tactic(auto)]
 
 ghost use Rattle.std.specs.Prelude.{◌≡◌, ◌+◌, ◌≤◌, length, replicate, OnOk};
-ghost use Rattle.std.proofs.lemmas.List.Edits.{sets};
 ghost use Rattle.refusal.specs.Refusal.{number_of};
-ghost use Rattle.pair.specs.Tests.{same};
 ghost use Rattle.card.specs.Layout.{block_size};
 ghost use Rattle.card.specs.Sound.{judged};
 ghost use Rattle.card.specs.code.Configuration.{put, Ordered};
@@ -73,34 +71,6 @@ impl Written {
     }
 }
 
-// Whether two lists of words are the same.
-fn same(a: &[u32], b: &[u32]) -> bool
-    ensures { result ≡ same a.now b.now }
-{
-    if a.len() != b.len() {
-        return false;
-    }
-    let mut ok = true;
-    let mut i: usize = 0;
-    while i < a.len() {
-        ok = ok & (a[i] == b[i]);
-        i += 1;
-    }
-    ok
-}
-
-// Writes words at an offset.
-fn write(card: &mut [u32], at: usize, words: &[u32])
-    requires { at + length words.now ≤ length card.old }
-    ensures { card.new ≡ sets card.old at words.now }
-{
-    let mut i = 0;
-    while i < words.len() {
-        card[at + i] = words[i];
-        i += 1;
-    }
-}
-
 // How many old places the configuration write frees.
 fn freed(card: &[u32], k: Configuration, due: Due) -> u16
     requires card_value { judged card.now ≡ 0 }
@@ -108,44 +78,37 @@ fn freed(card: &[u32], k: Configuration, due: Due) -> u16
     ensures { Freed card.now due result }
 {
     if due.more {
-        let spent = old::spent_from(card, 0, due.last);
-        return spent.count;
+        return old::spent_from(card, 0, due.last).count;
     }
     k.old_length
 }
 
 // The configuration that the configuration write sets.
+#[tactic(auto, unfolding(crate::specs::code::Plan::followed))]
 fn following(k: Configuration, due: Due, freed: u16, grown: u16) -> Configuration
     requires { freed ≤ k.old_length }
     ensures { result ≡ followed k due freed grown }
 {
-    let format = k.format;
-    let size = k.size;
-    let places = k.places;
     let old_start = k.place_on(k.old_start, freed);
     if due.more {
         return Configuration {
-            format,
-            size,
-            places,
             old_start,
             old_length: k.old_length - freed,
             new_length: grown,
             boundary: due.last,
+            ..k
         };
     }
     Configuration {
-        format,
-        size,
-        places,
         old_start,
         old_length: grown,
         new_length: 0,
         boundary: 0,
+        ..k
     }
 }
 
-// A write: where in the card it stands and how many words it has.
+// A write: where in the card it stands, how many words it has, and which it is.
 #[derive(Clone, Copy)]
 struct WritePlan {
     start: usize,
@@ -158,26 +121,25 @@ fn settle(words: &mut [u32], k: Configuration, due: Due, freed: u16, grown: u16)
     requires { freed ≤ k.old_length }
     ensures { (result ≡ settling due freed) × (words.new ≡ put words.old (followed k due freed grown)) }
 {
-    let next = following(k, due, freed, grown);
-    next.put(words);
-    let finished = !due.more;
+    following(k, due, freed, grown).put(words);
     WritePlan {
         start: 0,
         count: CONFIGURATION_WORDS,
         written: Written::Configuration {
             freed: freed as u32,
-            finished,
+            finished: !due.more,
         },
     }
 }
 
 // Plans the next write for a due block, whose words become the write's, or refuses.
-fn plan(card: &[u32], words: &mut [u32], due: Due) -> Result<WritePlan, Refusal>
+#[tactic(auto, using(crate::proofs::Plans::large))]
+fn plan(card: &[u32], k: Configuration, words: &mut [u32], due: Due) -> Result<WritePlan, Refusal>
     requires card_value { judged card.now ≡ 0 }
+    requires ordered { Ordered card.now k }
     requires words_len { length words.old ≡ block_size card.now }
     ensures { Planned card.now words.old due words.new result }
 {
-    let k = Configuration::of(card);
     let freed = freed(card, k, due);
     if due.used == 0 {
         return Ok(settle(words, k, due, freed, k.new_length));
@@ -187,7 +149,7 @@ fn plan(card: &[u32], words: &mut [u32], due: Due) -> Result<WritePlan, Refusal>
         return Err(Refusal::Crowded);
     }
     let place = k.due_place();
-    if !same(layout::place(card, place), words) {
+    if layout::place(card, place) != &*words {
         return Ok(WritePlan {
             start: layout::place_start(card, place),
             count: words.len(),
@@ -195,7 +157,7 @@ fn plan(card: &[u32], words: &mut [u32], due: Due) -> Result<WritePlan, Refusal>
         });
     }
     words[1] = words[2]; // the first pair: its term, and its position after the entry's count
-    if !same(layout::entry(card, place), &words[..PAIR_WORDS]) {
+    if layout::entry(card, place) != &words[..PAIR_WORDS] {
         return Ok(WritePlan {
             start: layout::entry_start(card, place),
             count: PAIR_WORDS,
@@ -220,8 +182,8 @@ fn advance_with(
     ensures card { card.new ≡ (step card.old batch.now).card }
 {
     let due = due::fill(card, batch, reaches, words);
-    let plan = plan(card, words, due)?;
-    write(card, plan.start, &words[..plan.count]);
+    let plan = plan(card, Configuration::of(card), words, due)?;
+    card[plan.start..plan.start + plan.count].copy_from_slice(&words[..plan.count]);
     Ok(plan.written)
 }
 
@@ -258,8 +220,7 @@ pub fn step(card: &mut [u32], batch: &[u32]) -> Result<Written, Refusal>
     ensures card { card.new ≡ (step card.old batch.now).card }
 {
     check(card, batch)?;
-    let k = Configuration::of(card);
-    let size = k.size as usize;
+    let size = Configuration::of(card).size as usize;
     let mut buffer = [0u32; WORDS_MOST];
     advance(card, batch, &mut buffer[..size])
 }

@@ -22,6 +22,7 @@ pub(crate) struct OldCursor {
 }
 
 // Reads the first pair of the entry at a word.
+#[tactic(auto, unfolding(crate::specs::code::Old::entry_read))]
 pub(crate) fn entry(card: &[u32], at: usize, end: usize, place: u16, places: u16) -> OldCursor
     requires { BlockEntry card.now at end }
     ensures { result ≡ entry_read card.now at end place places }

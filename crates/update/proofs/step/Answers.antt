@@ -1,8 +1,6 @@
 -- `update::step` meets its contract: a refusal of the judge, a refusal of the batch, or the next write.
 use Prim.Native.Nat.{ℕ, ◌≤◌}
-use native.Mathlib.Omega.{arith}
 use mathlib.Core.Path.{◌≡◌, sym, ap}
-use mathlib.Core.List.{List}
 use lib.ListN.{length, take, replicate, length-replicate}
 use lib.Seq.{length-take-le}
 use Rattle.std.proofs.lemmas.List.{take-replicate}
@@ -22,12 +20,12 @@ part_long : (n m : ℕ) → n ≤ m → n ≡ length {A = ℕ} (take n (replicat
 part_long n m h = sym (length-take-le n (replicate m 0) (rw (length-replicate {A = ℕ} m 0) h))
 
 pub slice_bounds-buffer-end : goal.slice_bounds-buffer-end
-slice_bounds-buffer-end c = (size_of _ _ c.in_ok-check.ensures.sound c.of-k.ensures).1
+slice_bounds-buffer-end c = (size_of _ _ c.in_ok-check.ensures.sound c.of-size.ensures).1
 
 pub slice_bounds-advance-end : goal.slice_bounds-advance-end
-slice_bounds-advance-end c = part_long _ 1024 (size_of _ _ c.in_ok-check.ensures.sound c.of-k.ensures).1
+slice_bounds-advance-end c = part_long _ 1024 (size_of _ _ c.in_ok-check.ensures.sound c.of-size.ensures).1
 
 pub advance-requires-clause-words_value : goal.advance-requires-clause-words_value
 advance-requires-clause-words_value c =
-    let s = size_of _ _ c.in_ok-check.ensures.sound c.of-k.ensures in
+    let s = size_of _ _ c.in_ok-check.ensures.sound c.of-size.ensures in
     rw (s.0) (take-replicate _ 1024 0 (rw s.0 at s.1))

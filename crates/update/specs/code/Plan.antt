@@ -6,7 +6,6 @@ use Rattle.card.specs.declared.layout.Configuration as layout
 use Rattle.card.specs.Layout.{configuration_words, length_of_old}
 use Rattle.card.specs.code.Configuration.{place_on}
 use Rattle.update.specs.declared.due.Due.{Due}
-use Rattle.update.specs.declared.Written.{Written}
 use Rattle.update.specs.declared.Written.TheVariants.{Configuration}
 use Rattle.update.specs.declared.WritePlan.{WritePlan}
 use Rattle.refusal.specs.declared.Refusal.{Refusal}

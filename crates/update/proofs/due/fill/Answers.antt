@@ -1,13 +1,9 @@
 -- `update::due::fill` meets its contract. The invariant of its loop, Fills: what remains is the pairs put so far and what is left above the
 -- pair in hand. The measure is what is left.
-use native.Mathlib.Omega.{arith}
-use mathlib.Core.Path.{◌≡◌, sym, ap, ◌∙◌}
-use Rattle.pair.specs.Rank.{Words}
+use mathlib.Core.Path.{sym, ◌∙◌}
 use Rattle.pack.proofs.Holding.{put_none, put_refused, put_placed}
 use Rattle.card.proofs.Facts.{facts}
-use Rattle.update.specs.Step.{remains}
 use Rattle.update.proofs.Fills.{fills_start, fills_end, fills_full, fills_turn}
-use Rattle.update.proofs.Grown.{Remaining}
 use Rattle.update.proofs.Merging.{merges_begun}
 use Rattle.update.proofs.Next.{remaining_read}
 use Rattle.update.proofs.due.fill.Goals as goal
