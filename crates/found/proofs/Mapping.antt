@@ -23,7 +23,7 @@ use Rattle.card.specs.declared.layout.Configuration.{Configuration}
 use Rattle.card.proofs.Circle.{length_around}
 use Rattle.card.proofs.Ordered.{place_on_law}
 use Rattle.found.specs.Found.{mapped_to}
-use Rattle.found.specs.code.Segment.{Segment, LiveAfter}
+use Rattle.found.specs.code.Segment.{SoundSegment, LiveAfter}
 use Rattle.found.proofs.Span.{first, mapped_leading}
 
 mapped_rising : (c is : List ℕ) (j : ℕ) → blocks_sound c is ≡ true → rising_from j (pairs_at c is) ≡ true → rising_from j (map (first_pair c) is) ≡ true
@@ -98,7 +98,7 @@ module _ {c : List ℕ} {k : Configuration} {start len r low high m v : ℕ} (h 
   search_down q = record { order = l; inside = omega (arith, h.inside); half = halved_down h.half l u (omega (arith, at_middle)) }
 
 pub search_end :
-    {c : List ℕ} {k : Configuration} {start len r low high : ℕ} → Searching c start len r low high → high ≤ low → Segment c k start len →
+    {c : List ℕ} {k : Configuration} {start len r low high : ℕ} → Searching c start len r low high → high ≤ low → SoundSegment c k start len →
     low ≡ mapped_to c r (around (place_count c) start len)
 search_end {c} {k} {start} {len} {r} h l s =
     let rises = mapped_rising c (around (place_count c) start len) 0 s.sound s.rises in

@@ -23,7 +23,7 @@ use Rattle.found.specs.declared.walk.Stretch.{Stretch}
 use Rattle.found.specs.declared.walk.Walk.{Walk}
 use Rattle.found.specs.Found.{found, blocks_read, question_number}
 use Rattle.found.specs.Views.{run_at, run, run_start_at, run_start}
-use Rattle.found.specs.code.Segment.{Segment, spanned, LiveAfter, LookupWalk}
+use Rattle.found.specs.code.Segment.{SoundSegment, spanned, LiveAfter, LookupWalk}
 use Rattle.found.specs.code.Walk.{postings, at_first, run_of, run_start_of, places_of, ahead, next_run, next_start}
 use Rattle.found.proofs.Answers.{Asked, asked}
 use Rattle.found.proofs.Unread.{Same, span_same, span_ready}
@@ -122,10 +122,10 @@ module _ {c : List ℕ} {k : Configuration} (g : Facts c) (i : ConfigurationOf c
   pub old_places_law : around (place_count c) k.old_start k.old_length ≡ old_places c
   old_places_law = rw (o.of_start, o.of_old)
 
-  pub new_segment : Segment c k newStart k.new_length
+  pub new_segment : SoundSegment c k newStart k.new_length
   new_segment = record { ordered = o; sound = rw new_places_law g.new_sound; rises = rw new_places_law g.new_rising }
 
-  pub old_segment : Segment c k k.old_start k.old_length
+  pub old_segment : SoundSegment c k k.old_start k.old_length
   old_segment = record { ordered = o; sound = rw old_places_law g.old_sound; rises = rw old_places_law g.old_rising }
 
 module _ (c : List ℕ) (k : Configuration) (t a z r q : ℕ) (w : Words c) (e : question_number c t a z ≡ 0) (i : ConfigurationOf c k) (l : LiveAfter t a z 0 r) (m : LiveAfter t a z (boundary c) q) where

@@ -27,7 +27,7 @@ use Rattle.card.proofs.Circle.{around_drop, around_mod, length_around}
 use Rattle.card.proofs.Live.{pairs_at_append}
 use Rattle.card.proofs.Ordered.{place_on_law}
 use Rattle.found.specs.Found.{mapped_to, span}
-use Rattle.found.specs.code.Segment.{Segment, spanned}
+use Rattle.found.specs.code.Segment.{SoundSegment, spanned}
 use Rattle.found.specs.code.Walk.{at_first, run_of, run_start_of, places_of, Ready}
 use Rattle.found.proofs.Span.{First, first, mapped_none, mapped_leading}
 use Rattle.found.proofs.Walking.{first_append, first_none}
@@ -167,7 +167,7 @@ sound_live c (i ∷ is) s =
     (and_left (formed (place c i)) (eqb (first_pair c i) (get_or (pairs (place c i)) 0 0)) whole, sound_live c is (and_right (formed (place c i) && eqb (first_pair c i) (get_or (pairs (place c i)) 0 0)) (blocks_sound c is) s))
 
 -- the span of a segment
-module _ (c : List ℕ) (k : Configuration) (start len t a z after : ℕ) (g : Segment c k start len) (h : a ≤ z) where
+module _ (c : List ℕ) (k : Configuration) (start len t a z after : ℕ) (g : SoundSegment c k start len) (h : a ≤ z) where
   abbrev is : List ℕ
   is = around (place_count c) start len
 
@@ -205,7 +205,7 @@ module _ (c : List ℕ) (k : Configuration) (start len t a z after : ℕ) (g : S
       }
 
 -- what the code answers, by two searches of the map, is the span
-module _ {c : List ℕ} {k : Configuration} {start len i m j skip read : ℕ} (t a z : ℕ) (g : Segment c k start len) (h : a ≤ z) (ei : i ≡ rank t a) (em : m ≡ mapped_to c i (around (place_count c) start len)) (es : skip ≡ m - 1) (ej : j ≡ rank t z) (er : read ≡ mapped_to c j (around (place_count c) start len)) where
+module _ {c : List ℕ} {k : Configuration} {start len i m j skip read : ℕ} (t a z : ℕ) (g : SoundSegment c k start len) (h : a ≤ z) (ei : i ≡ rank t a) (em : m ≡ mapped_to c i (around (place_count c) start len)) (es : skip ≡ m - 1) (ej : j ≡ rank t z) (er : read ≡ mapped_to c j (around (place_count c) start len)) where
   pub skips_at_most : skip ≤ read
   skips_at_most = rw (es, em, ei, er, ej) (order c k start len t a z 0 g h)
 

@@ -9,6 +9,7 @@ ghost use Rattle.found.specs.code.Segment.{LookupWalk, WalkCounted};
 
 use crate::map::opened;
 use crate::walk::{Walk, WalkCount};
+use pair::Pair;
 use refusal::Refusal;
 
 mod map; // the blocks that are read, found by the map
@@ -23,6 +24,26 @@ pub struct Question {
 }
 
 impl Question {
+    // Its lowest pair.
+    pub(crate) fn first(self) -> Pair
+        ensures { result ≡ record { term = self.term; position = self.from } }
+    {
+        Pair {
+            term: self.term,
+            position: self.from,
+        }
+    }
+
+    // Its highest pair.
+    pub(crate) fn last(self) -> Pair
+        ensures { result ≡ record { term = self.term; position = self.to } }
+    {
+        Pair {
+            term: self.term,
+            position: self.to,
+        }
+    }
+
     // Refuses a card that is not sound, and a term and positions that are no question.
     pub fn check(self, card: &[u32]) -> Result<(), Refusal>
         ensures { number_of result ≡ question_number card.now self.term self.from self.to }

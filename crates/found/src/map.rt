@@ -2,52 +2,55 @@
 ghost use Rattle.std.specs.Prelude.{◌≡◌, ◌-◌, ◌≤◌};
 ghost use Rattle.card.specs.Layout.{place_count, around};
 ghost use Rattle.found.specs.Found.{mapped_to, question_number};
-ghost use Rattle.found.specs.code.Segment.{Segment, spanned, LiveAfter, LookupWalk};
+ghost use Rattle.found.specs.code.Segment.{SoundSegment, spanned, LiveAfter, LookupWalk};
 
 use crate::Question;
 use crate::walk::{Stretch, Walk};
 use card::layout::{Configuration, first_pair};
 use pair::Pair;
 
-// How many of the len places from start stand up to the last whose map pair is at most the rank.
-fn mapped_to(card: &[u32], k: Configuration, start: u16, len: u16, rank: u64) -> u16
-    requires { Segment card.now k start len }
-    ensures { result ≡ mapped_to card.now «rank» (around (place_count card.now) start len) }
-{
-    let mut low: u16 = 0;
-    let mut high: u16 = len;
-    while low < high {
-        let middle = low + (high - low) / 2;
-        if first_pair(card, k.place_on(start, middle)) <= rank {
-            low = middle + 1;
-        } else {
-            high = middle;
-        }
-    }
-    low
+// A segment of a card: so many places from one on, around the circle.
+#[derive(Clone, Copy)]
+struct Segment {
+    configuration: Configuration,
+    start: u16,
+    len: u16,
 }
 
-// The blocks that are read of a segment: from the last whose map pair is at most (term, from), or else the first, up to the last whose map pair
-// is at most (term, to).
-fn span(card: &[u32], k: Configuration, start: u16, len: u16, q: Question, after: u32) -> Stretch
-    requires segment { Segment card.now k start len }
-    requires from_le_to { q.from ≤ q.to }
-    ensures { result ≡ spanned card.now start len q.term q.from q.to after }
-{
-    let first = Pair {
-        term: q.term,
-        position: q.from,
-    };
-    let last = Pair {
-        term: q.term,
-        position: q.to,
-    };
-    let skipped = mapped_to(card, k, start, len, first.rank()).saturating_sub(1);
-    let read = mapped_to(card, k, start, len, last.rank());
-    Stretch {
-        place: k.place_on(start, skipped),
-        blocks: read - skipped,
-        after,
+impl Segment {
+    // How many of its places stand up to the last whose map pair is at most the rank.
+    fn mapped_to(self, card: &[u32], rank: u64) -> u16
+        requires { SoundSegment card.now self.configuration self.start self.len }
+        ensures { result ≡ mapped_to card.now «rank» (around (place_count card.now) self.start self.len) }
+    {
+        let mut low: u16 = 0;
+        let mut high = self.len;
+        while low < high {
+            let middle = low + (high - low) / 2;
+            let place = self.configuration.place_on(self.start, middle);
+            if first_pair(card, place) <= rank {
+                low = middle + 1;
+            } else {
+                high = middle;
+            }
+        }
+        low
+    }
+
+    // The blocks that are read of it: from the last whose map pair is at most (term, from), or else the first, up to the last whose map pair is
+    // at most (term, to).
+    fn span(self, card: &[u32], q: Question, after: u32) -> Stretch
+        requires segment { SoundSegment card.now self.configuration self.start self.len }
+        requires from_le_to { q.from ≤ q.to }
+        ensures { result ≡ spanned card.now self.start self.len q.term q.from q.to after }
+    {
+        let skipped = self.mapped_to(card, q.first().rank()).saturating_sub(1);
+        let read = self.mapped_to(card, q.last().rank());
+        Stretch {
+            place: self.configuration.place_on(self.start, skipped),
+            blocks: read - skipped,
+            after,
+        }
     }
 }
 
@@ -72,14 +75,20 @@ pub(crate) fn opened(card: &[u32], q: Question) -> Walk
     ensures { LookupWalk card.now q.term q.from q.to result }
 {
     let k = Configuration::of(card);
-    let new_after = live_after(q, 0);
-    let new = span(card, k, k.new_start(), k.new_length, q, new_after);
-    let old_after = live_after(q, k.boundary);
-    let old = span(card, k, k.old_start, k.old_length, q, old_after);
+    let new = Segment {
+        configuration: k,
+        start: k.new_start(),
+        len: k.new_length,
+    };
+    let old = Segment {
+        configuration: k,
+        start: k.old_start,
+        len: k.old_length,
+    };
     Walk {
         term: q.term,
         to: q.to,
-        new,
-        old,
+        new: new.span(card, q, live_after(q, 0)),
+        old: old.span(card, q, live_after(q, k.boundary)),
     }
 }

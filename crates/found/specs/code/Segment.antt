@@ -15,7 +15,7 @@ use Rattle.found.specs.Views.{run, run_start}
 use Rattle.found.specs.code.Walk.{ahead, blocks_of, next_run, next_start, ReadyWalk}
 
 -- the len places from start are sound blocks, rising from block to block
-pub record Segment (c : List ℕ) (k : Configuration) (start len : ℕ) : Type 0 where
+pub record SoundSegment (c : List ℕ) (k : Configuration) (start len : ℕ) : Type 0 where
   pub ordered : Ordered c k
   pub sound : blocks_sound c (around (place_count c) start len) ≡ true
   pub rises : rising_from 0 (pairs_at c (around (place_count c) start len)) ≡ true
