@@ -1,5 +1,4 @@
 pub mod Answers
-pub mod Asking
 pub mod Bound
 pub mod Frame
 pub mod Mapping

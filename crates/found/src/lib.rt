@@ -45,6 +45,7 @@ impl Question {
     }
 
     // Refuses a card that is not sound, and a term and positions that are no question.
+    #[tactic(auto, using(refusal::proofs::Numbers::number_positive, refusal::proofs::Numbers::number_returned), unfolding(crate::specs::Found::question_number, pair::specs::Tests::first_of))]
     pub fn check(self, card: &[u32]) -> Result<(), Refusal>
         ensures { number_of result ≡ question_number card.now self.term self.from self.to }
     {
