@@ -16,8 +16,8 @@ ghost use Rattle.reader.specs.Reader.{read, ReadOff};
 ghost use Rattle.page.specs.Page.{printed};
 ghost use Rattle.lines.specs.Lines.{scored};
 
+use found::Question;
 use lookup::Found;
-use page::PageAnswer;
 use refusal::{Refusal, number_of};
 use update::forecast;
 
@@ -155,7 +155,7 @@ pub extern "C" fn gi_lookup(
 ) -> u32
     ensures { LookedUp result found.new blocks.new answer.new (lookup card.now term from to answer.old) }
 {
-    let reply = lookup::lookup(card, term, from, to, answer);
+    let reply = lookup::lookup(card, Question { term, from, to }, answer);
     fill(reply, found, blocks)
 }
 
@@ -186,7 +186,7 @@ pub extern "C" fn gi_run_view(
 ) -> u32
     ensures { Viewed card.now term from to result start.new found.new }
 {
-    match lookup::run_part(card, term, from, to) {
+    match lookup::run_part(card, Question { term, from, to }) {
         Ok(part) => {
             *start = part.start;
             *found = part.len;
@@ -236,15 +236,14 @@ pub extern "C" fn gi_page(
 ) -> u32
     ensures { Paged result lines.new memory.new (printed card.now term from to memory.old) }
 {
-    let answer = page::page(card, term, from, to, memory);
-    match answer {
-        PageAnswer::Refused(number) => {
-            *lines = 0;
-            number
-        }
-        PageAnswer::Lines(count) => {
+    match page::page(card, term, from, to, memory) {
+        Ok(count) => {
             *lines = count;
             0
+        }
+        Err(refusal) => {
+            *lines = 0;
+            refusal.into()
         }
     }
 }
@@ -259,8 +258,11 @@ pub extern "C" fn gi_scores(
 ) -> u32
     ensures { ReadScores result words.new line.new batch.new (scored bytes.now batch.old) }
 {
-    let scores = lines::read_batch(bytes, batch);
-    *words = scores.words;
-    *line = scores.line;
-    scores.number
+    let (count, earned, number) = match lines::read_batch(bytes, batch) {
+        Ok(count) => (count, 0, 0),
+        Err(fault) => (0, fault.line, fault.refusal.into()),
+    };
+    *words = count;
+    *line = earned;
+    number
 }
