@@ -42,6 +42,15 @@ impl Fault {
     }
 }
 
+// Why, without the line.
+impl From<Fault> for Refusal {
+    ghost from_gives = { λ fault r. r ≡ fault.refusal };
+
+    fn from(fault: Fault) -> Refusal {
+        fault.refusal
+    }
+}
+
 // Writes the words of a record, the last of them its arrival number, from a word on.
 fn put_record(records: &mut [u32], at: usize, u: Record, arrival: u32)
     requires { at + record_words ≤ length records.old }

@@ -28,8 +28,7 @@ use Rattle.lines.specs.Claims.{addition_line, removal_line, LinesRead, LinesOnly
 use Rattle.lines.proofs.Meaning.{room_enough, batch_sorted, lines_counted, lines_numbered, order_means_nothing, last_line_decides}
 use Rattle.lines.proofs.Settled.{lines_short, file_settled}
 use Rattle.lines.proofs.Written.{lines_read, lines_only}
-use Rattle.scores.specs.declared.Outcome.TheVariants.{Finished, Refused}
-use Rattle.scores.specs.Outcome.{fresh_card, pass_from, steps_most, pass, outcome, printed_line, printed}
+use Rattle.scores.specs.Outcome.{Finished, Refused, fresh_card, pass_from, steps_most, pass, outcome, printed_line, printed}
 use Rattle.scores.specs.Claims.{OutcomeSettled, PassEnds}
 use Rattle.scores.proofs.Claims.{outcome_settled, pass_ends}
 

@@ -11,8 +11,7 @@ use Rattle.update.specs.Step.{step}
 use Rattle.lines.specs.Lines.{fault}
 use Rattle.lines.specs.Claims.{settling_bytes}
 use Rattle.lines.proofs.Settled.{fault_settled, faultless_whole}
-use Rattle.scores.specs.declared.Outcome.TheVariants.{Refused}
-use Rattle.scores.specs.Outcome.{pass_from, steps_most, pass, outcome}
+use Rattle.scores.specs.Outcome.{Refused, pass_from, steps_most, pass, outcome}
 use Rattle.scores.specs.Claims.{OutcomeSettled, PassEnds}
 use Rattle.scores.proofs.Passing.{ends_within, ends_limit, ends_some, ends_later, goes_on_law, refused_here, finished_here}
 

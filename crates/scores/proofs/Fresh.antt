@@ -21,7 +21,8 @@ use Rattle.update.specs.Pass.{blocks_from, blocks, step_limit}
 use Rattle.update.proofs.Blocks.{blocks_few}
 use Rattle.scores.specs.Outcome.{fresh_card, steps_most}
 
-fits : format_number (replicate (card_length (width_of 1) 8 6) 0) 8 6 ≡ 0
+-- formatting it is not refused
+pub fits : format_number (replicate (card_length (width_of 1) 8 6) 0) 8 6 ≡ 0
 unfolding format_number width_of first_of
 fits = refl
 

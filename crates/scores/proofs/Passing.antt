@@ -14,8 +14,7 @@ use Rattle.card.specs.Sound.{judged}
 use Rattle.update.proofs.Ends.{pass_finishes_law}
 use Rattle.update.specs.Step.{step}
 use Rattle.update.specs.Pass.{finishes_within, refused_within}
-use Rattle.scores.specs.declared.Outcome.TheVariants.{Finished, Refused}
-use Rattle.scores.specs.Outcome.{pass_from, steps_most}
+use Rattle.scores.specs.Outcome.{Finished, Refused, pass_from, steps_most}
 
 -- of n steps one is refused or finishes the pass
 unfoldable pub ends_within : ℕ → List ℕ → List ℕ → Bool

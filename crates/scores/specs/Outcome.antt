@@ -1,12 +1,22 @@
 -- The outcome of a scorekeepers' file: its batch taken through a pass on a fresh card, and the line that is printed of it.
-use Rattle.std.specs.Prelude.{ℕ, zero, suc, cond, not, List, [], ◌∷◌, ◌++◌, replicate, eqb}
+use Rattle.std.specs.Prelude.{ℕ, zero, suc, cond, not, Result, Ok, Err, List, [], ◌∷◌, ◌++◌, replicate, eqb}
+use Rattle.refusal.specs.declared.Refusal.{Refusal}
+use Rattle.refusal.specs.Refusal.{number}
 use Rattle.figures.specs.Figures.{decimal}
 use Rattle.card.specs.Layout.{card_length, width_of, block_size, formatted}
 use Rattle.update.specs.Step.{remains, step}
 use Rattle.update.specs.Pass.{step_limit}
 use Rattle.lines.specs.Lines.{tab, line_feed, fault, batch_of}
-use Rattle.scores.specs.declared.Outcome.{Outcome}
-use Rattle.scores.specs.declared.Outcome.TheVariants.{Finished, Refused}
+
+-- how a file ends: the steps of the pass that finished, or a number
+pub data Outcome : Type 0 where
+  Finished : (steps : ℕ) → Outcome
+  Refused : (number : ℕ) → Outcome
+
+-- the outcome that an answer tells
+abbrev pub told : Result ℕ Refusal → Outcome
+told (Ok steps) = Finished steps
+told (Err refusal) = Refused (number refusal)
 
 -- a fresh card, zeros elsewhere, with blocks of 8 words and 6 places
 unfoldable pub fresh_card : List ℕ

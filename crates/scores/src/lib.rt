@@ -6,7 +6,9 @@ ghost use Rattle.std.specs.Prelude.{◌≡◌, ◌<◌, ◌≤◌, length};
 ghost use Rattle.std.proofs.lemmas.List.Edits.{sets};
 ghost use Rattle.pair.specs.Rank.{word_limit};
 ghost use Rattle.card.specs.Sound.{judged};
-ghost use Rattle.scores.specs.Outcome.{steps_most, pass, outcome, printed_line, printed};
+ghost use Rattle.scores.specs.Outcome.{told, steps_most, pass, outcome, printed_line, printed};
+
+use refusal::Refusal;
 
 // The most words of a batch, the sizes of the card, and its words.
 const BATCH_WORDS: usize = 20_480;
@@ -20,46 +22,30 @@ const CARD_WORDS: usize = 68;
 // The most bytes of the line that is printed: a letter, a tab, ten figures and a line feed.
 pub const LINE_BYTES: usize = 13;
 
-// How a file ends: the steps of the pass that finished, or a number.
-#[derive(Clone, Copy)]
-pub enum Outcome {
-    Finished(u32),
-    Refused(u32),
-}
-
-// Steps with a batch until the pass finishes or a step is refused.
-fn run_pass(card: &mut [u32], batch: &[u32]) -> Outcome
+// Steps with a batch until the pass finishes or a step is refused, and answers how many steps it took.
+fn run_pass(card: &mut [u32], batch: &[u32]) -> Result<u32, Refusal>
     requires batch_bound { steps_most card.old batch.now < word_limit }
     requires card_value { judged card.old ≡ 0 }
-    ensures { result ≡ pass card.old batch.now }
+    ensures { told result ≡ pass card.old batch.now }
 {
     let mut steps: u32 = 0;
     loop {
-        let answer = update::step(card, batch);
-        let number = update::number_of(answer);
-        if number != 0 {
-            return Outcome::Refused(number);
-        }
+        let written = update::step(card, batch)?;
         steps += 1;
-        if update::finished_of(answer) {
-            return Outcome::Finished(steps);
+        if written.is_finished() {
+            return Ok(steps);
         }
     }
 }
 
-// The outcome of a file's bytes.
-pub fn outcome_of(bytes: &[u8]) -> Outcome
-    ensures { result ≡ outcome bytes.now }
+// How a file ends: the steps of the pass that finished, or why it is refused.
+pub fn outcome_of(bytes: &[u8]) -> Result<u32, Refusal>
+    ensures { told result ≡ outcome bytes.now }
 {
     let mut batch = [0u32; BATCH_WORDS];
-    let scores = lines::read_batch(bytes, &mut batch);
-    let number = scores.number;
-    let words = scores.words;
-    if number != 0 {
-        return Outcome::Refused(number);
-    }
+    let words = lines::read_batch(bytes, &mut batch)?;
     let mut card = [0u32; CARD_WORDS];
-    card::format(&mut card, BLOCK_WORDS, PLACES);
+    card::format(&mut card, BLOCK_WORDS, PLACES)?;
     run_pass(&mut card, &batch[..words])
 }
 
@@ -77,12 +63,12 @@ fn put_line(line: &mut [u8; LINE_BYTES], letter: u8, n: u32) -> usize
 }
 
 // Writes the line that is printed of an outcome, and answers how many bytes it has.
-pub fn put_outcome(line: &mut [u8; LINE_BYTES], outcome: Outcome) -> usize
-    ensures value { (result ≡ length (printed outcome)) × (line.new ≡ sets line.old 0 (printed outcome)) }
+pub fn put_outcome(line: &mut [u8; LINE_BYTES], outcome: Result<u32, Refusal>) -> usize
+    ensures value { (result ≡ length (printed (told outcome))) × (line.new ≡ sets line.old 0 (printed (told outcome))) }
     ensures upper_bound { result ≤ 13 }
 {
     match outcome {
-        Outcome::Finished(steps) => put_line(line, b'D', steps),
-        Outcome::Refused(number) => put_line(line, b'N', number),
+        Ok(steps) => put_line(line, b'D', steps),
+        Err(refusal) => put_line(line, b'N', u32::from(refusal)),
     }
 }

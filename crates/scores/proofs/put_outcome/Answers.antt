@@ -2,10 +2,10 @@
 use Rattle.scores.specs.Outcome.{printed}
 use Rattle.scores.proofs.put_outcome.Goals as goal
 
-pub returns-in-Finished-clause-value : goal.returns-in-Finished-clause-value
+pub returns-in-Ok-clause-value : goal.returns-in-Ok-clause-value
 unfolding printed
-returns-in-Finished-clause-value c = rw c.in-Finished.is c.put_line.ensures.value
+returns-in-Ok-clause-value c = rw c.in-Ok.is c.put_line.ensures.value
 
-pub returns-in-Refused-clause-value : goal.returns-in-Refused-clause-value
+pub returns-in-Err-clause-value : goal.returns-in-Err-clause-value
 unfolding printed
-returns-in-Refused-clause-value c = rw c.in-Refused.is c.put_line-in-Refused.ensures.value
+returns-in-Err-clause-value c = rw (c.in-Err.is, ← c.from.ensures) c.put_line-in-Err.ensures.value

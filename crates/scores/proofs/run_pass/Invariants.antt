@@ -4,8 +4,8 @@ use Rattle.scores.specs.Outcome.{steps_most}
 use Rattle.scores.proofs.Passing.{Passing}
 use Rattle.scores.proofs.run_pass.Given as goal
 
-abbrev pub invariant-loop-answer : goal.invariant-loop-answer
-invariant-loop-answer l = Passing (steps_most l.initial.card l.batch) l.initial.card l.batch l.card l.steps
+abbrev pub invariant-loop-written : goal.invariant-loop-written
+invariant-loop-written l = Passing (steps_most l.initial.card l.batch) l.initial.card l.batch l.card l.steps
 
-abbrev pub decreases-loop-answer : goal.decreases-loop-answer
-decreases-loop-answer l = steps_most l.initial.card l.batch - l.steps
+abbrev pub decreases-loop-written : goal.decreases-loop-written
+decreases-loop-written l = steps_most l.initial.card l.batch - l.steps
