@@ -1,23 +1,28 @@
 -- The rounds that a batch annuls: how many start at or below a position, and where these reach to.
-use Prim.Native.Nat.{ℕ, zero, suc, max, ◌+◌, ◌-◌, ◌/◌, ◌≤◌, ◌<◌, zero-le}
+use Prim.Native.Nat.{ℕ, zero, suc, min, max, ◌+◌, ◌-◌, ◌/◌, ◌≤◌, ◌<◌, zero-le}
 use native.Mathlib.Nat.{add-zero}
 use native.Mathlib.Omega.{arith}
 use mathlib.Core.Path.{◌≡◌, refl, sym, ap, ◌∙◌}
 use mathlib.Core.Bool.{Bool, true, false, cond, ◌&&◌, ◌||◌}
 use mathlib.Core.List.{List, [], ◌∷◌}
 use mathlib.Core.Logic.{◌⊎◌, inl, inr}
-use lib.ListN.{length, take, drop, get_or}
+use lib.ListN.{length, take, drop, get_or, length-take}
+use Rattle.std.proofs.Common.{get_or-take}
 use lib.Seq.{get_or-drop}
 use lib.Dec.{ltb, leb, eqb}
-use borrow.Author.Tests.{ltb-true, ltb-false, lt-ltb, le-ltb, leb-true, leb-false, lt-leb, eqb-true, eqb-false}
+use borrow.Author.Tests.{ltb-true, ltb-false, lt-ltb, le-ltb, leb-true, leb-false, lt-leb, le-leb, eqb-true, eqb-false}
 use Rattle.pair.specs.Rank.{word_limit, rank}
 use Rattle.pair.proofs.Tests.{and_left, and_right, or_left, or_right, or_cases}
 use Rattle.pair.proofs.Search.{Halved, halved_up, halved_down}
 use Rattle.batch.specs.Batch.{Update, updates, falls}
-use Rattle.batch.specs.code.Rounds.{starts, reaches_from, halving, stands, begun}
-use Rattle.batch.specs.code.Search.{record_at, starting_to, reach_with, reach_of}
+use Rattle.batch.specs.code.Rounds.{starts, reaches_from, halving, stands, begun, reached, annuls_later}
+use Rattle.std.specs.List.{list_any}
+use Rattle.batch.specs.declared.Passed.{Passed}
+use Rattle.batch.specs.code.Records.{record_of, updates_of}
+use Rattle.batch.specs.code.Search.{starting_to, reach_with, reach_of, annulled}
+use Rattle.batch.specs.code.Untouched.{before_round}
 use Rattle.batch.proofs.InOrder.{EachUpdate, Formed}
-use Rattle.batch.proofs.Records.{update_at}
+use Rattle.batch.proofs.Records.{any_array, take_arrays}
 
 -- where the record n starts
 starts_drop : (n : ℕ) (us : List Update) → starts (drop n us) ≡ drop n (starts us)
@@ -26,11 +31,11 @@ starts_drop zero us = refl
 starts_drop (suc n) [] = refl
 starts_drop (suc n) (u ∷ us) = starts_drop n us
 
-pub start_at : (b : List ℕ) (n : ℕ) → n < length b / 5 → get_or (starts (updates b)) n 0 ≡ rank (record_at b n).term (record_at b n).from
+pub start_at : (us : List Update) (n : ℕ) {u : Update} → drop n us ≡ u ∷ drop (n + 1) us → rank u.term u.from ≡ get_or (starts us) n 0
 unfolding starts
-start_at b n h =
-    let e : get_or (drop n (starts (updates b))) 0 0 ≡ get_or (starts (updates b)) n 0 = get_or-drop n (starts (updates b)) 0 0 ∙ rw (add-zero n) in
-    sym e ∙ rw (← starts_drop n (updates b), update_at b n h)
+start_at us n {u} h =
+    let here : get_or (starts (drop n us)) 0 0 ≡ get_or (starts us) n 0 = rw (starts_drop n us, get_or-drop n (starts us) 0 0, add-zero n) in
+    rw h at here
 
 length_starts : (us : List Update) → length (starts us) ≡ length us
 unfolding starts
@@ -152,7 +157,7 @@ begun_halved xs n j p h = go (stands xs n j p) refl (stands xs n (j + 1) p) refl
     go false e false f = halving_halved xs p n 0 n (omega arith) h
 
 -- the place is among the first n
-halving_most : (xs : List ℕ) (p turns low high : ℕ) → low ≤ high → halving xs p turns low high ≤ high
+pub halving_most : (xs : List ℕ) (p turns low high : ℕ) → low ≤ high → halving xs p turns low high ≤ high
 unfolding halving
 halving_most xs p zero low high l = l
 halving_most xs p (suc turns) low high l =
@@ -168,7 +173,7 @@ halving_most xs p (suc turns) low high l =
     go true f false up down = omega (arith, ltb-true low high f, down (omega arith))
     go false f t up down = l
 
-stands_most : (xs : List ℕ) (n j p : ℕ) → stands xs n j p ≡ true → j ≤ n
+pub stands_most : (xs : List ℕ) (n j p : ℕ) → stands xs n j p ≡ true → j ≤ n
 unfolding stands
 stands_most xs n j p e = leb-true j n (and_left (leb j n) _ (and_left (leb j n && (eqb j 0 || leb (get_or xs (j - 1) 0) p)) _ e))
 
@@ -322,3 +327,100 @@ module _ (us : List Update) (f : EachUpdate Formed us) (o : falls 0 us ≡ false
   begun_reach i e =
       reaches_at us 0 i f (omega (arith, begun_most (starts us) (length (reaches_from 0 us)) j p))
       ∙ ap (reach_of 3 0) (sym (starting_first us p ∙ ap (λ n. take n us) (starting_begun ∙ e)))
+
+-- whether the last of some reaches to a position
+pub last_reach : (ts : List ℕ) (p : ℕ) → 0 < length ts → leb p (get_or ts (length ts - 1) 0) ≡ reached ts (length ts) p
+unfolding reached
+last_reach ts p h = go (length ts) h
+  where
+    go : (n : ℕ) → 0 < n → leb p (get_or ts (n - 1) 0) ≡ reached ts n p
+    go zero h = absurd (omega arith)
+    go (suc i) h = let e : suc i - 1 ≡ i = omega arith in rw e
+
+pub reach_none : (ts : List ℕ) (p : ℕ) → length ts ≤ 0 → false ≡ reached ts (length ts) p
+unfolding reached
+reach_none [] p h = refl
+reach_none (t ∷ ts) p h = absurd (omega arith)
+
+pub begun_halves : (xs : List ℕ) (n j p : ℕ) → stands xs n j p ≡ false → stands xs n (j + 1) p ≡ false → halving xs p n 0 n ≡ begun xs n j p
+unfolding begun
+begun_halves xs n j p e f = rw (e, f)
+
+-- the first so many of some
+pub starts_first : (n : ℕ) (us : List Update) → starts (take n us) ≡ take n (starts us)
+unfolding starts
+starts_first zero us = refl
+starts_first (suc n) [] = refl
+starts_first (suc n) (u ∷ us) = ap (λ xs. rank u.term u.from ∷ xs) (starts_first n us)
+
+halving_first : (xs : List ℕ) (n p turns low high : ℕ) → high ≤ n → halving (take n xs) p turns low high ≡ halving xs p turns low high
+unfolding halving
+halving_first xs n p zero low high h = refl
+halving_first xs n p (suc turns) low high h = go (ltb low high) refl (halving_first xs n p turns (middle + 1) high h) (λ l. halving_first xs n p turns low middle (omega (arith, l)))
+  where
+    middle : ℕ
+    middle = low + (high - low) / 2
+
+    go : (t : Bool) → ltb low high ≡ t → halving (take n xs) p turns (middle + 1) high ≡ halving xs p turns (middle + 1) high →
+        (low < high → halving (take n xs) p turns low middle ≡ halving xs p turns low middle) →
+        cond t (cond (leb (get_or (take n xs) middle 0) p) (halving (take n xs) p turns (middle + 1) high) (halving (take n xs) p turns low middle)) low
+        ≡ cond t (cond (leb (get_or xs middle 0) p) (halving xs p turns (middle + 1) high) (halving xs p turns low middle)) low
+    go true e up down = let l : low < high = ltb-true low high e in rw (get_or-take n xs middle 0 (omega arith), up, down l)
+    go false e up down = refl
+
+stands_first : (xs : List ℕ) (n j p : ℕ) → stands (take n xs) n j p ≡ stands xs n j p
+unfolding stands
+stands_first xs n j p = go (leb j n) refl (eqb j 0) refl (eqb j n) refl
+  where
+    go : (r : Bool) → leb j n ≡ r → (s : Bool) → eqb j 0 ≡ s → (t : Bool) → eqb j n ≡ t →
+        (r && (s || leb (get_or (take n xs) (j - 1) 0) p) && (t || ltb p (get_or (take n xs) j 0))) ≡ (r && (s || leb (get_or xs (j - 1) 0) p) && (t || ltb p (get_or xs j 0)))
+    go false e s f t g = refl
+    go true e true f true g = refl
+    go true e true f false g = rw (get_or-take n xs j 0 (omega (arith, leb-true j n e, eqb-false j n g)))
+    go true e false f true g = rw (get_or-take n xs (j - 1) 0 (omega (arith, leb-true j n e, eqb-false j 0 f)))
+    go true e false f false g = rw (get_or-take n xs (j - 1) 0 (omega (arith, leb-true j n e, eqb-false j 0 f)), get_or-take n xs j 0 (omega (arith, leb-true j n e, eqb-false j n g)))
+
+pub begun_first : (us : List Update) (n j p : ℕ) → begun (starts (take n us)) n j p ≡ begun (starts us) n j p
+unfolding begun
+begun_first us n j p = rw (starts_first n us, stands_first (starts us) n j p, stands_first (starts us) n (j + 1) p, halving_first (starts us) n p n 0 n (omega arith))
+
+pub reached_first : (ts : List ℕ) (n j p : ℕ) → j ≤ n → reached (take n ts) j p ≡ reached ts j p
+unfolding reached
+reached_first ts n zero p h = refl
+reached_first ts n (suc i) p h = rw (get_or-take n ts i 0 (omega arith))
+
+-- those of the first so many
+pub reached_of : {fs : List ℕ} (ts : List ℕ) (g p : ℕ) → g ≤ length ts → fs ≡ take g ts → reached fs (length fs) p ≡ reached ts g p
+reached_of ts g p h e =
+    let l : length (take g ts) ≡ g = length-take g ts ∙ omega arith in
+    rw (e, l) (reached_first ts g g p (omega arith))
+
+-- up to where the next of the rounds starts
+module _ (xs ts : List ℕ) (n j p z g : ℕ) (e : g ≡ begun xs n j p) where
+  pub before_reached : reached ts g p ≡ true → 0 ≡ before_round xs ts n j p z
+  unfolding before_round
+  before_reached r = rw (← e, r)
+
+  pub before_all : reached ts g p ≡ false → g ≡ n → z ≡ before_round xs ts n j p z
+  unfolding before_round
+  before_all r h = rw (← e, r, le-leb n g (omega arith))
+
+  pub before_next : reached ts g p ≡ false → g < n → min z (get_or xs g 0 - 1) ≡ before_round xs ts n j p z
+  unfolding before_round
+  before_next r h = rw (← e, r, lt-leb n g h) (least (ltb z (get_or xs g 0)) refl)
+    where
+      least : (t : Bool) → ltb z (get_or xs g 0) ≡ t → min z (get_or xs g 0 - 1) ≡ cond t z (get_or xs g 0 - 1)
+      least true f = omega (arith, ltb-true z (get_or xs g 0) f)
+      least false f = omega (arith, ltb-false z (get_or xs g 0) f)
+
+-- one of some that reach to a position arrived later than the additions of its pair
+pub annuls_all :
+    (rs : List (List ℕ)) (p a : ℕ) → list_any (λ ws. leb p (record_of ws).to && ltb a (record_of ws).arrival) rs ≡ annuls_later (updates_of rs) (length rs) p a
+unfolding annuls_later
+annuls_all rs p a = any_array (λ u. leb p u.to && ltb a u.arrival) rs ∙ rw take_arrays
+
+pub annulled_added :
+    (rs : List (List ℕ)) (ts : List ℕ) (p : ℕ) (added : Bool) (k : Passed) → length rs ≡ length ts → true ≡ reached ts (length ts) p → added ≡ true → k.arrived < k.rounds →
+    list_any (λ ws. leb p (record_of ws).to && ltb k.arrived (record_of ws).arrival) rs ≡ annulled (updates_of rs) ts (length rs) p added k
+unfolding annulled
+annulled_added rs ts p added k l r a h = rw (annuls_all rs p k.arrived, a, lt-ltb k.arrived k.rounds h, l, ← r)

@@ -79,10 +79,10 @@ module _ {b : List ℕ} {x : ℕ} {k : Cursor} (w : Words b) (f : Follows b x k)
   -- a pair behind the pair, with the next record starting above it: no further record is passed up to it
   module _ (y : ℕ) (l : x < y) (ahead : next < length b / 5 → y < rank (record_at b next).term (record_at b next).from) where
     asked_there : asked b y ≡ k.passed
-    asked_there = sym (f.passes y (omega arith)) ∙ passed_here b k.passed y (starting_none b next y ahead)
+    asked_there = sym (f.passes y (omega arith)) ∙ passed_here us k.passed y (starting_none b next y ahead)
 
     asked_here : asked b x ≡ k.passed
-    asked_here = sym (f.passes x (omega arith)) ∙ passed_here b k.passed x (starting_none b next x (λ m. omega (arith, ahead m)))
+    asked_here = sym (f.passes x (omega arith)) ∙ passed_here us k.passed x (starting_none b next x (λ m. omega (arith, ahead m)))
 
     not_added : any_update (adds y) us ≡ false
     not_added =

@@ -74,7 +74,7 @@ behind_append k us vs =
     rw (rounds_append us vs k.rounds, removals_append us vs k.next k.removals, reach_append 2 us vs k.reach, added_append us vs k.added, arrived_append us vs k.added k.arrived, e)
 
 -- a question with a rank that is not below the last one
-passed_asked : (b : List ℕ) (k x : ℕ) → k ≤ x → passed_to b (asked b k) x ≡ asked b x
+passed_asked : (b : List ℕ) (k x : ℕ) → k ≤ x → passed_to (updates b) (asked b k) x ≡ asked b x
 unfolding passed_to asked
 passed_asked b k x h =
     let us = updates b in
@@ -180,7 +180,7 @@ module _ {b : List ℕ} {k : ℕ} {cursor : Cursor} (f : Follows b k cursor) (x 
 
   -- the removal in hand behind the further updates, and one sought anew
   abbrev hand : Latest
-  hand = (passing b cursor x).latest
+  hand = (passing us cursor x).latest
 
   asked_next : (asked b x).next ≡ length (starting_to x us)
   asked_next = unfold asked passed_to behind in omega arith

@@ -7,14 +7,16 @@ use mathlib.Core.List.{List, [], ◌∷◌}
 use mathlib.Core.Logic.{◌≢◌}
 use lib.ListN.{length, take, drop, get_or, set, length-drop, length-take, take-append-drop}
 use lib.Seq.{sets, length-sets, get_or-drop, drop-drop, take_all}
-use borrow.Author.Tests.{eq-eqb, ne_eqb}
+use mathlib.Core.Bool.{Bool, true, false}
+use lib.Dec.{ltb}
+use borrow.Author.Tests.{eq-eqb, ne_eqb, ltb-true, ltb-false}
 use Rattle.pair.proofs.Lists.{sets_append, sets_next, sets_out, part_sets_same}
-use Rattle.batch.specs.Batch.{updates, batch_number}
+use Rattle.batch.specs.Batch.{Update, updates, batch_number}
 use Rattle.batch.specs.code.Rounds.{reaches_from, round_reaches}
-use Rattle.batch.specs.code.Search.{record_at}
 use Rattle.batch.proofs.Annulling.{rounds_few}
 use Rattle.batch.proofs.InOrder.{in_order}
-use Rattle.batch.proofs.Records.{length_updates, update_at, update_end}
+use Rattle.batch.specs.code.Records.{records_of}
+use Rattle.batch.proofs.Records.{length_updates, array_beyond}
 
 -- the first n are written, and the rest is to come from where these reach to
 pub record Filling (b l now : List ℕ) (reach n : ℕ) : Type 0 where
@@ -34,10 +36,8 @@ module _ {b l now : List ℕ} {reach n : ℕ} (f : Filling b l now reach n) wher
   all = round_reaches (updates b)
 
   -- one more of kind 3
-  pub filling_turn :
-      n < length b / 5 → n ≢ length now → (record_at b n).kind ≡ 3 →
-      Filling b l (set now n (max reach (record_at b n).to)) (max reach (record_at b n).to) (n + 1)
-  filling_turn h i k =
+  pub filling_turn : (u : Update) → drop n (updates b) ≡ u ∷ drop (n + 1) (updates b) → n < length now → u.kind ≡ 3 → Filling b l (set now n (max reach u.to)) (max reach u.to) (n + 1)
+  filling_turn u h i k =
       record {
         few = more;
         fits = omega (arith, f.fits, filling_length f);
@@ -46,10 +46,10 @@ module _ {b l now : List ℕ} {reach n : ℕ} (f : Filling b l now reach n) wher
       }
     where
       far : ℕ
-      far = max reach (record_at b n).to
+      far = max reach u.to
 
       next : drop n all ≡ far ∷ reaches_from far (drop (n + 1) (updates b))
-      next = f.rest ∙ (unfold reaches_from in rw (update_at b n h, eq-eqb (record_at b n).kind 3 k))
+      next = f.rest ∙ (unfold reaches_from in rw (h, eq-eqb u.kind 3 k))
 
       more : n + 1 ≤ length all
       more = omega (arith, length-drop n all, ap length next)
@@ -70,11 +70,11 @@ module _ {b l now : List ℕ} {reach n : ℕ} (f : Filling b l now reach n) wher
       let n' : length all ≡ n = omega (arith, length-drop n all, ap length e, f.few) in
       (omega (arith, n', f.fits), f.written ∙ ap (sets l 0) (take_all n all (omega (arith, n'))))
 
-  pub filling_other : n < length b / 5 → (record_at b n).kind ≢ 3 → Filled
-  filling_other h k = ended (f.rest ∙ (unfold reaches_from in rw (update_at b n h, ne_eqb (record_at b n).kind 3 k)))
+  pub filling_other : (u : Update) → drop n (updates b) ≡ u ∷ drop (n + 1) (updates b) → u.kind ≢ 3 → Filled
+  filling_other u h k = ended (f.rest ∙ (unfold reaches_from in rw (h, ne_eqb u.kind 3 k)))
 
-  pub filling_end : length b / 5 ≤ n → Filled
-  filling_end h = ended (f.rest ∙ (unfold reaches_from in rw (update_end b n h)))
+  pub filling_end : drop n (updates b) ≡ [] → Filled
+  filling_end h = ended (f.rest ∙ (unfold reaches_from in rw h))
 
   -- and where the table is full
   pub filling_full : n ≡ length now → Filled
@@ -83,6 +83,14 @@ module _ {b l now : List ℕ} {reach n : ℕ} (f : Filling b l now reach n) wher
       let first : length (take n all) ≡ n = length-take n all ∙ omega (arith, f.few) in
       let behind = sets_out (sets l 0 (take n all)) (0 + length (take n all)) (drop n all) (omega (arith, length-sets l 0 (take n all), full, first)) in
       (omega (arith, full, f.few), sym (ap (sets l 0) (sym (take-append-drop n all)) ∙ (sets_append (take n all) (drop n all) l 0 ∙ (behind ∙ sym f.written))))
+
+  -- or all records were read
+  pub filling_done : {rs : List (List ℕ)} → rs ≡ records_of b → n ≡ min (length rs) (length now) → Filled
+  filling_done {rs} r e = go (ltb n (length now)) refl
+    where
+      go : (t : Bool) → ltb n (length now) ≡ t → Filled
+      go true f = filling_end (array_beyond b n r (omega (arith, ltb-true n (length now) f)))
+      go false f = filling_full (omega (arith, ltb-false n (length now) f))
 
 -- a batch in order has no more rounds than records
 pub rounds_most : (b : List ℕ) → batch_number b ≡ 0 → length (round_reaches (updates b)) ≤ 4096

@@ -3,6 +3,7 @@ pub mod Any
 pub mod Arriving
 pub mod Claims
 pub mod Covering
+pub mod Cutting
 pub mod Deciding
 pub mod Decisions
 pub mod EmptyRanges

@@ -1,18 +1,21 @@
 -- The arrival numbers of the records, written down one after another.
-use Prim.Native.Nat.{ℕ, zero, suc, ◌+◌, ◌/◌, ◌≤◌, ◌<◌, zero-le}
+use Prim.Native.Nat.{ℕ, zero, suc, ◌+◌, ◌≤◌, ◌<◌}
 use native.Mathlib.Nat.{add-zero}
 use native.Mathlib.Omega.{arith}
 use mathlib.Core.Path.{◌≡◌, refl, sym, ap, ap₂, ◌∙◌}
-use mathlib.Core.Bool.{Bool, false, ◌||◌, or_assoc, or-false}
+use mathlib.Core.Bool.{Bool, ◌||◌}
 use mathlib.Core.List.{List, [], ◌∷◌}
 use lib.ListN.{length, take, drop, get_or, set, replicate, length-replicate}
 use lib.Seq.{sets, length-sets, get_or-drop, take_all}
 use lib.Dec.{eqb}
+use Rattle.std.specs.List.{list_any}
+use Rattle.std.proofs.lemmas.Bool.Decides.{nat_tests}
 use Rattle.pair.specs.Rising.{any}
 use Rattle.pair.proofs.Lists.{sets_next, part_sets_same}
-use Rattle.batch.specs.Batch.{Update, updates, arrivals}
-use Rattle.batch.specs.code.Search.{record_at}
-use Rattle.batch.proofs.Records.{length_updates, update_at, update_end}
+use Rattle.batch.specs.declared.reading.Record.{Record}
+use Rattle.batch.specs.Batch.{Update, arrivals}
+use Rattle.batch.specs.code.Records.{record_of, updates_of}
+use Rattle.batch.proofs.Records.{array_at, length_updates_of}
 
 length_arrivals : (us : List Update) → length (arrivals us) ≡ length us
 unfolding arrivals
@@ -25,52 +28,41 @@ arrivals_drop zero us = refl
 arrivals_drop (suc n) [] = refl
 arrivals_drop (suc n) (u ∷ us) = arrivals_drop n us
 
-module _ (b : List ℕ) where
+eqb_swap : (a b : ℕ) → eqb a b ≡ eqb b a
+eqb_swap a b = grind (arith, nat_tests)
+
+-- one of them is 0
+pub any_zero : (rs : List (List ℕ)) → list_any (λ ws. eqb (record_of ws).arrival 0) rs ≡ any (eqb 0) (arrivals (updates_of rs))
+unfolding updates_of arrivals any
+any_zero [] = refl
+any_zero (ws ∷ rs) = ap₂ ◌||◌ (eqb_swap (record_of ws).arrival 0) (any_zero rs)
+
+module _ (rs : List (List ℕ)) where
   abbrev all : List ℕ
-  all = arrivals (updates b)
+  all = arrivals (updates_of rs)
 
-  so_many : length all ≡ length b / 5
-  so_many = length_arrivals (updates b) ∙ length_updates b
+  so_many : length all ≡ length rs
+  so_many = length_arrivals (updates_of rs) ∙ length_updates_of rs
 
-  -- that of the record n
-  number_at : (n : ℕ) → n < length b / 5 → drop n all ≡ (record_at b n).arrival ∷ drop (n + 1) all
+  -- one more is written
+  pub numbering_turn :
+      (l : List ℕ) {now : List ℕ} {n : ℕ} (u : Record) → now ≡ sets l 0 (take n all) → n < length rs → n < length now → u ≡ record_of (get_or rs n []) →
+      set now n u.arrival ≡ sets l 0 (take (n + 1) all)
   unfolding arrivals
-  number_at n h = arrivals_drop n (updates b) ∙ rw (update_at b n h, arrivals_drop (n + 1) (updates b))
+  numbering_turn l {now} {n} u w h i e = ap₂ (λ ws a. set ws n a) w (sym here) ∙ rw first at (sets_next all l 0 n (omega (arith, so_many)))
+    where
+      first : 0 + n ≡ n
+      first = omega arith
 
-  -- the first n are written, and one of all is 0 exactly where without says so of these or one of the rest is
-  pub record Numbering (l now : List ℕ) (without : Bool) (n : ℕ) : Type 0 where
-    pub few : n ≤ length b / 5
-    pub written : now ≡ sets l 0 (take n all)
-    pub zeros : any (eqb 0) all ≡ (without || any (eqb 0) (drop n all))
+      here : get_or all n 0 ≡ u.arrival
+      here =
+          sym (get_or-drop n all 0 0 ∙ ap (λ k. get_or all k 0) (add-zero n))
+          ∙ ap (λ ws. get_or ws 0 0) (arrivals_drop n (updates_of rs) ∙ ap arrivals (array_at rs n h e))
 
-  pub numbering_start : (l : List ℕ) → Numbering l l false 0
-  numbering_start l = record { few = zero-le; written = refl; zeros = refl }
-
-  module _ {l now : List ℕ} {without : Bool} {n : ℕ} (s : Numbering l now without n) where
-    pub numbering_length : length now ≡ length l
-    numbering_length = ap length s.written ∙ length-sets l 0 (take n all)
-
-    pub numbering_turn : n < length b / 5 → Numbering l (set now n (record_at b n).arrival) (without || eqb 0 (record_at b n).arrival) (n + 1)
-    unfolding any
-    numbering_turn h =
-        record {
-          few = omega arith;
-          written = ap₂ (λ ws a. set ws n a) s.written (sym here) ∙ rw first at (sets_next all l 0 n (omega (arith, so_many)));
-          zeros = s.zeros ∙ rw (number_at n h) (sym (or_assoc without (eqb 0 (record_at b n).arrival) (any (eqb 0) (drop (n + 1) all))));
-        }
-      where
-        first : 0 + n ≡ n
-        first = omega arith
-
-        here : get_or all n 0 ≡ (record_at b n).arrival
-        here = sym (get_or-drop n all 0 0 ∙ ap (λ k. get_or all k 0) (add-zero n)) ∙ ap (λ ws. get_or ws 0 0) (number_at n h)
-
-    pub numbering_end : length b / 5 ≤ n → (without ≡ any (eqb 0) all) × (now ≡ sets l 0 all)
-    unfolding any
-    numbering_end h =
-        let behind : drop n all ≡ [] = unfold arrivals in arrivals_drop n (updates b) ∙ rw (update_end b n h) in
-        (sym (s.zeros ∙ rw behind (or-false without)), s.written ∙ ap (sets l 0) (take_all n all (omega (arith, so_many))))
+  -- and at last all of them
+  pub numbering_end : (l : List ℕ) {now : List ℕ} {n : ℕ} → now ≡ sets l 0 (take n all) → length rs ≤ n → now ≡ sets l 0 all
+  numbering_end l {now} {n} w h = w ∙ ap (sets l 0) (take_all n all (omega (arith, so_many)))
 
   -- in a memory with room for all of them what is written is all
-  pub numbers_whole : length b ≤ 20480 → take (length b / 5) (sets (replicate 4096 0) 0 all) ≡ all
+  pub numbers_whole : length rs ≤ 4096 → take (length rs) (sets (replicate 4096 0) 0 all) ≡ all
   numbers_whole h = rw (← so_many) (part_sets_same all (replicate 4096 0) 0 (omega (arith, so_many, length-replicate {A = ℕ} 4096 0)))

@@ -7,34 +7,38 @@ use mathlib.Core.Bool.{Bool, true, false, cond, ◌&&◌, false≢true}
 use mathlib.Core.List.{List, [], ◌∷◌}
 use lib.ListN.{length, drop}
 use lib.Dec.{ltb, eqb}
-use borrow.Author.Tests.{ltb-true, ltb-false, le-ltb, lt-ltb, eq-eqb}
-use Rattle.std.specs.Prelude.{Some, None}
+use borrow.Author.Tests.{ltb-true, ltb-false, le-ltb, lt-ltb, eq-eqb, eqb-true}
+use Rattle.std.specs.Prelude.{Option, Some, None}
 use Rattle.std.specs.Option.{unwrap_or}
 use Rattle.pair.specs.Rank.{rank}
 use Rattle.pair.proofs.Tests.{and_left, and_right, or_left, or_right, or_both, and_both, not_holds}
 use Rattle.batch.specs.declared.Cursor.{Cursor}
 use Rattle.batch.specs.declared.Passed.{Passed}
 use Rattle.batch.specs.Batch.{Update, updates, falls}
+use Rattle.batch.specs.declared.reading.Kind.{Kind}
+use Rattle.batch.specs.declared.reading.Kind.TheVariants.{Adds, Removes, Annuls}
+use Rattle.batch.specs.code.Records.{kind_of}
 use Rattle.batch.specs.code.Search.{record_at, update_of, lesser, least_added, adds_above, first_added, before_added, next_addition, starting_to, rounds_with, rounds_of, removals_with, removals_of, reach_with, reach_of, added_with, added_of, arrived_with, arrived_of, latest_with, latest_of, behind, further, passed_to, passing}
 use Rattle.batch.proofs.Merge.{least_added_first}
 use Rattle.batch.proofs.Records.{update_at, update_end}
 
 -- the search for an addition from a record on finds what the search from the record n on finds
-pub seeks_turn : (b : List ℕ) (k n : ℕ) → n < length b / 5 → adds_above k (update_of (record_at b n)) ≡ false → next_addition b n k ≡ next_addition b (n + 1) k
+pub seeks_turn :
+    (b : List ℕ) (k n : ℕ) (u : Update) → drop n (updates b) ≡ u ∷ drop (n + 1) (updates b) → adds_above k u ≡ false → next_addition b n k ≡ next_addition b (n + 1) k
 unfolding next_addition first_added before_added
-seeks_turn b k n h e =
+seeks_turn b k n u h e =
     let more : n + suc (before_added k (drop (n + 1) (updates b))) ≡ n + 1 + before_added k (drop (n + 1) (updates b)) = omega arith in
-    rw (update_at b n h, e, more)
+    rw (h, e, more)
 
 pub seeks_found :
-    (b : List ℕ) (k n : ℕ) → n < length b / 5 → adds_above k (update_of (record_at b n)) ≡ true →
-    next_addition b n k ≡ record { at = n; rank = Some (rank (record_at b n).term (record_at b n).from) }
+    (b : List ℕ) (k n : ℕ) (u : Update) → drop n (updates b) ≡ u ∷ drop (n + 1) (updates b) → adds_above k u ≡ true →
+    next_addition b n k ≡ record { at = n; rank = Some (rank u.term u.from) }
 unfolding next_addition first_added before_added
-seeks_found b k n h e = rw (update_at b n h, e, add-zero)
+seeks_found b k n u h e = rw (h, e, add-zero)
 
-pub seeks_end : (b : List ℕ) (k n : ℕ) → length b / 5 ≤ n → next_addition b n k ≡ record { at = n; rank = None }
+pub seeks_end : (b : List ℕ) (k n : ℕ) → drop n (updates b) ≡ [] → next_addition b n k ≡ record { at = n; rank = None }
 unfolding next_addition first_added before_added
-seeks_end b k n h = rw (update_end b n h, add-zero)
+seeks_end b k n h = rw (h, add-zero)
 
 -- what is in order from x on is in order from any lower number on, and so is the rest of it
 pub falls_lower : (us : List Update) (x y : ℕ) → y ≤ x → falls x us ≡ false → falls y us ≡ false
@@ -94,56 +98,101 @@ arrived_more u k n t h e = rw (eq-eqb u.kind 1 h) (go (eqb (rank u.term u.from) 
     go true false f g = rw (← g) (omega (arith, ltb-false u.arrival n f))
     go false l f g = rw (← g)
 
--- a turn of passing: a record that starts at or below the pair is passed
+-- the numbers of the kinds
+pub number_adds : (n : ℕ) → kind_of n ≡ Some Adds → n ≡ 1
+number_adds n e = go (eqb n 1) refl (eqb n 2) (eqb n 3) e
+  where
+    go : (r : Bool) → eqb n 1 ≡ r → (s t : Bool) → cond r (Some Adds) (cond s (Some Removes) (cond t (Some Annuls) None)) ≡ Some Adds → n ≡ 1
+    go true f s t e = eqb-true n 1 f
+    go false f true t e = absurd cc
+    go false f false true e = absurd cc
+    go false f false false e = absurd cc
+
+pub number_removes : (n : ℕ) → kind_of n ≡ Some Removes → n ≡ 2
+number_removes n e = go (eqb n 1) (eqb n 2) refl (eqb n 3) e
+  where
+    go : (r s : Bool) → eqb n 2 ≡ s → (t : Bool) → cond r (Some Adds) (cond s (Some Removes) (cond t (Some Annuls) None)) ≡ Some Removes → n ≡ 2
+    go true s f t e = absurd cc
+    go false true f t e = eqb-true n 2 f
+    go false false f true e = absurd cc
+    go false false f false e = absurd cc
+
+pub number_annuls : (n : ℕ) → kind_of n ≡ Some Annuls → n ≡ 3
+number_annuls n e = go (eqb n 1) (eqb n 2) (eqb n 3) refl e
+  where
+    go : (r s t : Bool) → eqb n 3 ≡ t → cond r (Some Adds) (cond s (Some Removes) (cond t (Some Annuls) None)) ≡ Some Annuls → n ≡ 3
+    go true s t f e = absurd cc
+    go false true t f e = absurd cc
+    go false false true f e = eqb-true n 3 f
+    go false false false f e = absurd cc
+
+pub number_none : (n : ℕ) → kind_of n ≡ None → (eqb n 1 ≡ false) × (eqb n 2 ≡ false) × (eqb n 3 ≡ false)
+number_none n e = go (eqb n 1) (eqb n 2) (eqb n 3) e
+  where
+    go : (r s t : Bool) → cond r (Some Adds) (cond s (Some Removes) (cond t (Some Annuls) None)) ≡ None → (r ≡ false) × (s ≡ false) × (t ≡ false)
+    go true s t e = absurd cc
+    go false true t e = absurd cc
+    go false false true e = absurd cc
+    go false false false e = (refl, refl, refl)
+
+pub behind_next : (k : Passed) (us : List Update) → (behind k us).next ≡ k.next + length us
+unfolding behind
+behind_next k us = refl
+
+-- one more record passed, of each kind
+module _ (k : Passed) (u : Update) where
+  pub one_added :
+      (a : ℕ) → kind_of u.kind ≡ Some Adds → cond (eqb (rank u.term u.from) k.added) (max k.arrived u.arrival) u.arrival ≡ a →
+      record k { next = k.next + 1; added = rank u.term u.from; arrived = a } ≡ behind k (u ∷ [])
+  unfolding behind rounds_of removals_of reach_of added_of arrived_of rounds_with removals_with reach_with added_with arrived_with
+  one_added a e f = rw (← f, number_adds u.kind e)
+
+  pub one_removed : kind_of u.kind ≡ Some Removes → record k { next = k.next + 1; removals = k.next + 1; reach = max k.reach (rank u.term u.to) } ≡ behind k (u ∷ [])
+  unfolding behind rounds_of removals_of reach_of added_of arrived_of rounds_with removals_with reach_with added_with arrived_with
+  one_removed e = rw (number_removes u.kind e, further (ltb k.reach (rank u.term u.to)) refl)
+    where
+      further : (t : Bool) → ltb k.reach (rank u.term u.to) ≡ t → cond t (rank u.term u.to) k.reach ≡ max k.reach (rank u.term u.to)
+      further true e = omega (arith, ltb-true k.reach (rank u.term u.to) e)
+      further false e = omega (arith, ltb-false k.reach (rank u.term u.to) e)
+
+  pub one_annulled : kind_of u.kind ≡ Some Annuls → record k { next = k.next + 1; rounds = max k.rounds u.arrival } ≡ behind k (u ∷ [])
+  unfolding behind rounds_of removals_of reach_of added_of arrived_of rounds_with removals_with reach_with added_with arrived_with
+  one_annulled e = rw (number_annuls u.kind e)
+
+  pub one_other : kind_of u.kind ≡ None → record k { next = k.next + 1 } ≡ behind k (u ∷ [])
+  unfolding behind rounds_of removals_of reach_of added_of arrived_of rounds_with removals_with reach_with added_with arrived_with
+  one_other e = let n = number_none u.kind e in rw (n.0, n.1, n.2)
+
+-- a turn of passing: an update that starts at or below the pair is passed
 pub passing_turn :
-    (b : List ℕ) (k : Cursor) (x : ℕ) → k.passed.next < length b / 5 →
-    rank (record_at b k.passed.next).term (record_at b k.passed.next).from ≤ x →
-    let p = k.passed in
-    let u = update_of (record_at b p.next) in
-    passing b k x
-    ≡ passing b
-    (record {
-      passed =
-          record {
-            next = p.next + 1;
-            rounds = rounds_with u p.rounds;
-            removals = removals_with u (p.next + 1) p.removals;
-            reach = reach_with 2 u p.reach;
-            added = added_with u p.added;
-            arrived = arrived_with u p.added p.arrived;
-          };
-      latest = latest_with x u k.latest;
-      begun = k.begun;
-    })
-    x
+    (us : List Update) (u : Update) (k : Cursor) (x : ℕ) → drop k.passed.next us ≡ u ∷ drop (k.passed.next + 1) us → rank u.term u.from ≤ x →
+    passing us k x ≡ passing us (record { passed = behind k.passed (u ∷ []); latest = latest_with x u k.latest; begun = k.begun }) x
 unfolding passing passed_to behind starting_to rounds_of removals_of reach_of added_of arrived_of latest_of
-passing_turn b k x h l =
-    let p = k.passed in
-    let us = starting_to x (drop (p.next + 1) (updates b)) in
-    let more : p.next + suc (length us) ≡ p.next + 1 + length us = omega arith in
-    rw (update_at b p.next h, le-ltb x (rank (record_at b p.next).term (record_at b p.next).from) l, more)
+passing_turn us u k x e l =
+    let vs = starting_to x (drop (k.passed.next + 1) us) in
+    let more : k.passed.next + suc (length vs) ≡ k.passed.next + 1 + length vs = omega arith in
+    rw (e, le-ltb x (rank u.term u.from) l, more)
 
--- its end: the next record starts above the pair, or there is none
-further_stop : (b : List ℕ) (n x : ℕ) → n < length b / 5 → x < rank (record_at b n).term (record_at b n).from → further b n x ≡ []
+-- its end: the next update starts above the pair, or there is none
+further_stop : (us vs : List Update) (u : Update) (n x : ℕ) → drop n us ≡ u ∷ vs → x < rank u.term u.from → further us n x ≡ []
 unfolding starting_to
-further_stop b n x h l = rw (update_at b n h, lt-ltb x (rank (record_at b n).term (record_at b n).from) l)
+further_stop us vs u n x e l = rw (e, lt-ltb x (rank u.term u.from) l)
 
-further_end : (b : List ℕ) (n x : ℕ) → length b / 5 ≤ n → further b n x ≡ []
+further_end : (us : List Update) (n x : ℕ) → drop n us ≡ [] → further us n x ≡ []
 unfolding starting_to
-further_end b n x h = rw (update_end b n h)
+further_end us n x e = rw e
 
-pub passed_here : (b : List ℕ) (k : Passed) (x : ℕ) → further b k.next x ≡ [] → passed_to b k x ≡ k
+pub passed_here : (us : List Update) (k : Passed) (x : ℕ) → further us k.next x ≡ [] → passed_to us k x ≡ k
 unfolding passed_to behind rounds_of removals_of reach_of added_of arrived_of
-passed_here b k x e = rw (e, add-zero k.next)
+passed_here us k x e = rw (e, add-zero k.next)
 
-passing_here : (b : List ℕ) (k : Cursor) (x : ℕ) → further b k.passed.next x ≡ [] → passing b k x ≡ k
+passing_here : (us : List Update) (k : Cursor) (x : ℕ) → further us k.passed.next x ≡ [] → passing us k x ≡ k
 unfolding passing latest_of
-passing_here b k x e = rw (passed_here b k.passed x e, e)
+passing_here us k x e = rw (passed_here us k.passed x e, e)
 
 pub passing_stop :
-    (b : List ℕ) (k : Cursor) (x : ℕ) → k.passed.next < length b / 5 →
-    x < rank (record_at b k.passed.next).term (record_at b k.passed.next).from → passing b k x ≡ k
-passing_stop b k x h l = passing_here b k x (further_stop b k.passed.next x h l)
+    (us vs : List Update) (u : Update) (k : Cursor) (x : ℕ) → drop k.passed.next us ≡ u ∷ vs → x < rank u.term u.from → passing us k x ≡ k
+passing_stop us vs u k x e l = passing_here us k x (further_stop us vs u k.passed.next x e l)
 
-pub passing_end : (b : List ℕ) (k : Cursor) (x : ℕ) → length b / 5 ≤ k.passed.next → passing b k x ≡ k
-passing_end b k x h = passing_here b k x (further_end b k.passed.next x h)
+pub passing_end : (us : List Update) (k : Cursor) (x : ℕ) → drop k.passed.next us ≡ [] → passing us k x ≡ k
+passing_end us k x e = passing_here us k x (further_end us k.passed.next x e)

@@ -1,30 +1,56 @@
 -- `batch::decide` meets its contract.
-use Prim.Native.Nat.{ℕ, min, ◌≤◌}
+use Prim.Native.Nat.{ℕ, min, ◌/◌}
 use native.Mathlib.Omega.{arith}
+use mathlib.Core.Path.{◌≡◌, refl, sym, ap, ◌∙◌}
+use mathlib.Core.Bool.{Bool, true, false}
 use mathlib.Core.List.{List}
-use Rattle.batch.specs.code.Rounds.{begun}
-use Rattle.batch.specs.code.Search.{decided}
-use Rattle.batch.proofs.Annulling.{begun_most}
+use lib.ListN.{length}
+use lib.Dec.{eqb}
+use Rattle.pair.specs.Rank.{position}
+use Rattle.batch.specs.declared.Cursor.{Cursor}
+use Rattle.batch.specs.declared.Decision.{Decision}
+use Rattle.batch.specs.declared.Removal.{Removal}
+use Rattle.batch.specs.Batch.{Update, updates}
+use Rattle.batch.specs.code.Records.{updates_of}
+use Rattle.batch.specs.code.Rounds.{starts, begun}
+use Rattle.batch.specs.code.Search.{decided, passing, removal, annulled}
+use Rattle.batch.proofs.Cutting.{cut_begun, cut_annulled}
+use Rattle.batch.proofs.Records.{updates_same}
 use Rattle.batch.proofs.decide.Goals as goal
 
-few : (xs : List ℕ) (n m j p : ℕ) → begun xs (min n m) j p ≤ n
-few xs n m j p = let l = begun_most xs (min n m) j p in omega arith
+-- the decision, from the cursor behind the further records and what a removal of the term does
+passing_begun : (us : List Update) (k : Cursor) (x : ℕ) → (passing us k x).begun ≡ k.begun
+unfolding passing
+passing_begun us k x = refl
 
-few_records : (xs : List ℕ) (n m j p : ℕ) → begun xs (min n m) j p ≤ m
-few_records xs n m j p = let l = begun_most xs (min n m) j p in omega arith
+module _ (b ts : List ℕ) (k : Cursor) (x : ℕ) {at : Cursor} {r : Removal} (a : at ≡ passing (updates b) k x) (e : r ≡ removal (updates b) at x) where
+  decided_removed : r.removed ≡ true → record { cursor = record at { latest = r.latest }; withdrawn = true } ≡ decided b ts k x
+  unfolding decided
+  decided_removed t = let n : at.begun ≡ k.begun = ap (λ k. k.begun) a ∙ passing_begun (updates b) k x in rw (← a, ← e, t, n)
+
+  decided_kept :
+      r.removed ≡ false → (g : ℕ) → g ≡ begun (starts (updates b)) (min (length ts) (length b / 5)) at.begun (position x) →
+      (w : Bool) → w ≡ annulled (updates b) ts g (position x) (eqb x at.passed.added) at.passed →
+      record { cursor = record { passed = at.passed; latest = r.latest; begun = g }; withdrawn = w } ≡ decided b ts k x
+  unfolding decided
+  decided_kept t g f w h =
+      let n : at.begun ≡ k.begun = ap (λ k. k.begun) a ∙ passing_begun (updates b) k x in
+      let f' : g ≡ begun (starts (updates b)) (min (length ts) (length b / 5)) k.begun (position x) = rw n at f in
+      rw (← a, ← e, t, ← f', ← h)
 
 pub returns-then-removal : goal.returns-then-removal
-unfolding decided
 returns-then-removal c =
-    rw c.pass_to-at.ensures (rw (rw (c.term_removal-removal.ensures, c.pass_to-at.ensures) at c.if-removal.true, c.term_removal-removal.ensures, c.pass_to-at.ensures))
-
-pub annulled-withdrawn-requires-clause-begun_in_bounds : goal.annulled-withdrawn-requires-clause-begun_in_bounds
-annulled-withdrawn-requires-clause-begun_in_bounds c = rw c.begun-begun.ensures (few _ _ _ _ _)
-
-pub annulled-withdrawn-requires-clause-begun_in_bounds_2 : goal.annulled-withdrawn-requires-clause-begun_in_bounds_2
-annulled-withdrawn-requires-clause-begun_in_bounds_2 c = rw c.begun-begun.ensures (few_records _ _ _ _ _)
+    let us = updates_same c.args.batch.now c.records_of-records.ensures in
+    decided_removed _ _ _ _ (c.pass_to-at.ensures ∙ rw us) (c.removal-removal.ensures ∙ rw us) c.if-removal.true
 
 pub returns : goal.returns
-unfolding decided
 returns c =
-    rw (c.annulled-withdrawn.ensures, c.begun-begun.ensures, c.of_rank-pair.ensures, c.term_removal-removal.ensures, c.pass_to-at.ensures, rw (c.term_removal-removal.ensures, c.pass_to-at.ensures) at c.if-removal.false)
+    let r = c.records_of-records.ensures in
+    let us = updates_same c.args.batch.now r in
+    let cut = c.of-rounds.ensures in
+    let b = c.begun-begun.ensures in
+    let first = c.first.ensures in
+    decided_kept _ _ _ _ (c.pass_to-at.ensures ∙ rw us) (c.removal-removal.ensures ∙ rw us) c.if-removal.false _
+    (b.value ∙ (cut_begun _ r _ _ _ cut.records cut.reaches _ _ ∙ rw c.of_rank-position.ensures))
+    _
+    (c.annulled.ensures ∙ (cut_annulled _ r _ _ _ cut.records cut.reaches _ _ _ _ b.few _ _ first.records first.reaches ∙ rw c.of_rank-position.ensures))

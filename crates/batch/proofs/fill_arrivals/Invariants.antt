@@ -1,11 +1,11 @@
--- `batch::fill_arrivals` meets its contract. The invariant of its loop, Numbering: the first n are written.
-use Prim.Native.Nat.{◌-◌, ◌/◌, ◌≤◌}
-use lib.ListN.{length}
-use Rattle.batch.proofs.Numbering.{Numbering}
+-- `batch::fill_arrivals` meets its contract. The invariant of its loop: the first n are written.
+use mathlib.Core.Path.{◌≡◌}
+use lib.ListN.{length, take}
+use lib.Seq.{sets}
+use Prim.Native.Nat.{◌≤◌}
+use Rattle.batch.specs.Batch.{arrivals}
+use Rattle.batch.specs.code.Records.{updates_of}
 use Rattle.batch.proofs.fill_arrivals.Given as goal
 
 abbrev pub invariant-loop-n : goal.invariant-loop-n
-invariant-loop-n l = (length l.batch / 5 ≤ length l.initial.numbers) × Numbering l.batch l.initial.numbers l.numbers l.without l.n
-
-abbrev pub decreases-loop-n : goal.decreases-loop-n
-decreases-loop-n l = length l.batch / 5 - l.n
+invariant-loop-n l = l.numbers ≡ sets l.initial.numbers 0 (take l.n (arrivals (updates_of l.records)))

@@ -6,4 +6,4 @@ use Rattle.batch.specs.code.Search.{next_addition}
 use Rattle.batch.proofs.next_addition.Given as goal
 
 abbrev pub invariant-loop-n : goal.invariant-loop-n
-invariant-loop-n l = (l.n ≤ max l.from (length l.batch / 5)) × (next_addition l.batch l.from l.above ≡ next_addition l.batch l.n l.above)
+invariant-loop-n l = (l.n ≤ max l.from (length l.records)) × (next_addition l.batch l.from l.above ≡ next_addition l.batch l.n l.above)

@@ -6,7 +6,7 @@ use Rattle.batch.specs.declared.Cursor.{Cursor}
 use Rattle.batch.specs.declared.Decision.{Decision}
 use Rattle.batch.specs.declared.Latest.{Latest}
 use Rattle.batch.specs.declared.Passed.{Passed}
-use Rattle.batch.specs.declared.Record.{Record}
+use Rattle.batch.specs.declared.reading.Record.{Record}
 use Rattle.batch.specs.declared.Removal.{Removal}
 use Rattle.batch.specs.Batch.{Update, updates, latest}
 use Rattle.batch.specs.code.Rounds.{starts, begun, reached, annuls_later}
@@ -132,16 +132,16 @@ abbrev pub none : Latest
 none = record { reach = 0; arrival = 0 }
 
 -- the further updates that start at or below the pair
-abbrev pub further : List ℕ → ℕ → ℕ → List Update
-further b n x = starting_to x (drop n (updates b))
+abbrev pub further : List Update → ℕ → ℕ → List Update
+further us n x = starting_to x (drop n us)
 
 -- they are passed too
-unfoldable pub passed_to : List ℕ → Passed → ℕ → Passed
-passed_to b k x = behind k (further b k.next x)
+unfoldable pub passed_to : List Update → Passed → ℕ → Passed
+passed_to us k x = behind k (further us k.next x)
 
-unfoldable pub passing : List ℕ → Cursor → ℕ → Cursor
-passing b k x =
-    record { passed = passed_to b k.passed x; latest = latest_of x k.latest (further b k.passed.next x); begun = k.begun }
+unfoldable pub passing : List Update → Cursor → ℕ → Cursor
+passing us k x =
+    record { passed = passed_to us k.passed x; latest = latest_of x k.latest (further us k.passed.next x); begun = k.begun }
 
 -- the latest of n records that reaches to the pair, sought anew only where the one in hand arrived after a and does not reach to it
 unfoldable pub renewed : List Update → ℕ → Latest → ℕ → ℕ → Latest
@@ -164,7 +164,7 @@ annulled us ts j p added k = reached ts j p && cond added (ltb k.arrived k.round
 -- what is decided of a pair behind the further updates; rounds are looked at where no removal of its term takes it away
 unfoldable pub decided : List ℕ → List ℕ → Cursor → ℕ → Decision
 decided b ts k x =
-    let now = passing b k x in
+    let now = passing (updates b) k x in
     let r = removal (updates b) now x in
     let sought = begun (starts (updates b)) (min (length ts) (length b / 5)) k.begun (position x) in
     record {
@@ -178,7 +178,7 @@ start = record { passed = record { next = 0; rounds = 0; removals = 0; reach = 0
 
 -- all updates passed that start at or below the rank k
 unfoldable pub asked : List ℕ → ℕ → Passed
-asked b k = passed_to b start.passed k
+asked b k = passed_to (updates b) start.passed k
 
 -- the removal in hand serves pairs from k on, of which those passed that reach to a pair have the greatest arrival number m there: none
 -- arrived after it, and where it reaches to the pair it is the latest itself
@@ -188,5 +188,5 @@ pub record Serves (m : ℕ → ℕ) (k : ℕ) (l : Latest) : Type 0 where
 
 -- the cursor follows questions up to k: at a later pair it has passed all updates that start at or below that
 pub record Follows (b : List ℕ) (k : ℕ) (cursor : Cursor) : Type 0 where
-  pub passes : (x : ℕ) → k ≤ x → passed_to b cursor.passed x ≡ asked b x
+  pub passes : (x : ℕ) → k ≤ x → passed_to (updates b) cursor.passed x ≡ asked b x
   pub serves : Serves (λ x. latest (reaches_to x) (take cursor.passed.next (updates b))) k cursor.latest

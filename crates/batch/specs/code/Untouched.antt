@@ -2,19 +2,20 @@
 use Rattle.std.specs.Prelude.{ℕ, min, ◌-◌, ◌/◌, cond, not, List, length, get_or, ltb, leb, eqb}
 use Rattle.pair.specs.Rank.{rank, term, position}
 use Rattle.batch.specs.declared.Cursor.{Cursor}
-use Rattle.batch.specs.Batch.{updates}
+use Rattle.batch.specs.Batch.{Update, updates}
 use Rattle.batch.specs.code.Rounds.{starts, begun, reached}
-use Rattle.batch.specs.code.Search.{record_at}
+use Rattle.batch.specs.code.Search.{record_at, update_of}
 
 abbrev pub highest_position : ℕ
 highest_position = 4294967295
 
--- up to where the record n starts, if it is of the pair's term
+-- up to where an update starts, if it is of the pair's term
+abbrev pub leaves_to : ℕ → Update → ℕ
+leaves_to x u = cond (leb (rank u.term u.from) x) 0 (cond (eqb u.term (term x)) (u.from - 1) highest_position)
+
+-- up to where the record n leaves the pair's term
 unfoldable pub before_record : List ℕ → ℕ → ℕ → ℕ
-before_record b n x =
-    let u = record_at b n in
-    cond (leb (length b / 5) n) highest_position
-    (cond (leb (rank u.term u.from) x) 0 (cond (eqb u.term (term x)) (u.from - 1) highest_position))
+before_record b n x = cond (leb (length b / 5) n) highest_position (leaves_to x (update_of (record_at b n)))
 
 -- up to where the next of n rounds starts, and to z at most, unless one reaches to the position p
 unfoldable pub before_round : List ℕ → List ℕ → ℕ → ℕ → ℕ → ℕ → ℕ
