@@ -10,6 +10,7 @@ ghost use Rattle.page.specs.Page.{line_fields, field_bytes, line_bytes, printed,
 ghost use Rattle.page.specs.code.Putting.{FieldsPut, LinePut, LinesPut};
 
 use crate::text::{COLUMN_WIDTH, FIELD_BYTES, put_field, put_head};
+use found::Question;
 use reader::{PostingReader, open_counted};
 use refusal::Refusal;
 
@@ -56,14 +57,14 @@ fn put_lines(mut reader: PostingReader<'_>, term: u32, lines: usize, memory: &mu
 }
 
 // Writes the page of a question into the first bytes of the memory. Answers how many lines.
-pub fn page(card: &[u32], term: u32, from: u32, to: u32, memory: &mut [u8]) -> Result<u32, Refusal>
-    ensures { PrintedOff (number_of result) (result_unwrap_or result 0) memory.new (printed card.now term from to memory.old) }
+pub fn page(card: &[u32], q: Question, memory: &mut [u8]) -> Result<u32, Refusal>
+    ensures { PrintedOff (number_of result) (result_unwrap_or result 0) memory.new (printed card.now q.term q.from q.to memory.old) }
 {
-    let counted = open_counted(card, term, from, to)?;
+    let counted = open_counted(card, q)?;
     let lines = counted.count.div_ceil(LINE_FIELDS);
     if memory.len() < LINE_BYTES * lines {
         return Err(Refusal::ShortMemory);
     }
-    put_lines(counted.reader, term, lines, memory);
+    put_lines(counted.reader, q.term, lines, memory);
     Ok(lines as u32)
 }

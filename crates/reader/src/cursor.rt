@@ -2,9 +2,11 @@
 ghost use Rattle.std.specs.Prelude.{◌≡◌, [], IfOk, IfSome, IsNone};
 ghost use Rattle.refusal.specs.Refusal.{number_of};
 ghost use Rattle.found.specs.Found.{found, question_number};
-ghost use Rattle.reader.specs.code.Cursor.{left_at, StandsIn, CursorAt, RunInHand, CursorStep};
+ghost use Rattle.found.specs.code.Walk.{ReadyWalk, ahead};
+ghost use Rattle.reader.specs.code.Cursor.{CursorAt, NextInHand, CursorStep};
 
-use found::walk::{Walk, next_run, start_walk};
+use found::Question;
+use found::walk::Walk;
 use refusal::Refusal;
 
 // A place in a card: the postings that are left of a run, and the walk behind it. Only this crate makes one.
@@ -29,35 +31,37 @@ impl Cursor {
 }
 
 // Judges the card and the question. The cursor stands before the question's postings.
-pub(crate) fn open_at(card: &[u32], term: u32, from: u32, to: u32) -> Result<Cursor, Refusal>
-    ensures number { number_of result ≡ question_number card.now term from to }
-    ensures cursor { IfOk result (λ k. CursorAt card.now k (found card.now term from to)) }
+pub(crate) fn open_at(card: &[u32], q: Question) -> Result<Cursor, Refusal>
+    ensures number { number_of result ≡ question_number card.now q.term q.from q.to }
+    ensures cursor { IfOk result (λ k. CursorAt card.now k (found card.now q.term q.from q.to)) }
 {
-    let walk = start_walk(card, term, from, to)?;
+    let walk = q.walk(card)?;
     Ok(Cursor::before(walk))
 }
 
-// The cursor with a run in hand: where no posting of a run is left, the next run of its walk.
-fn with_run(card: &[u32], cursor: Cursor) -> Option<Cursor>
-    ensures some { IfSome result (RunInHand card.now cursor) }
-    ensures none { IsNone result → StandsIn card.now cursor → left_at card.now cursor ≡ [] }
+// The cursor before the next run of a walk. Not called within a run, so it stays out of the steps there.
+#[inline(never)]
+fn run_at(card: &[u32], walk: Walk) -> Option<Cursor>
+    ensures some { IfSome result (NextInHand card.now walk) }
+    ensures none { IsNone result → ReadyWalk card.now walk → ahead card.now walk ≡ [] }
 {
-    if 0 < cursor.left {
-        return Some(cursor);
-    }
-    let run = next_run(card, cursor.walk)?;
+    let mut behind = walk;
+    let run = behind.next_run(card)?;
     Some(Cursor {
-        at: run.part.start,
-        left: run.part.len,
-        walk: run.rest,
+        at: run.start,
+        left: run.len,
+        walk: behind,
     })
 }
 
 // One posting, or the end, and on to the place behind it; nothing is judged.
+#[inline]
 pub fn step_at(card: &[u32], cursor: &mut Cursor) -> Option<u32>
     ensures { CursorStep card.now cursor.old result cursor.new }
 {
-    *cursor = with_run(card, *cursor)?;
+    if cursor.left == 0 {
+        *cursor = run_at(card, cursor.walk)?;
+    }
     let Some(&position) = card.get(cursor.at) else {
         return None;
     };

@@ -11,7 +11,8 @@ ghost use Rattle.reader.specs.code.Cursor.{left_at, StandsIn};
 ghost use Rattle.reader.specs.Reader.{all_yielded, yielded, yield_of, read, ReadOff};
 
 use crate::cursor::{Cursor, open_at, step_at};
-use found::walk::{Walk, start_counted};
+use found::Question;
+use found::walk::Walk;
 use refusal::Refusal;
 
 pub mod cursor; // a place in the card that moves on by one posting at a time
@@ -34,12 +35,12 @@ pub struct Counted<'a> {
 }
 
 // Judges the card and the question. Refused, the reader carries the number and yields nothing.
-pub fn open<'a>(card: &'a [u32], term: u32, from: u32, to: u32) -> PostingReader<'a>
-    ensures number { result.number ≡ question_number card.now term from to }
+pub fn open<'a>(card: &'a [u32], q: Question) -> PostingReader<'a>
+    ensures number { result.number ≡ question_number card.now q.term q.from q.to }
     ensures card { result.card ≡ card.entry }
-    ensures left { left_at result.card.now result.cursor ≡ all_yielded card.now term from to }
+    ensures left { left_at result.card.now result.cursor ≡ all_yielded card.now q.term q.from q.to }
 {
-    match open_at(card, term, from, to) {
+    match open_at(card, q) {
         Ok(cursor) => PostingReader {
             number: 0,
             card,
@@ -54,17 +55,12 @@ pub fn open<'a>(card: &'a [u32], term: u32, from: u32, to: u32) -> PostingReader
 }
 
 // Judges the card and the question, and counts the postings before the reader.
-pub fn open_counted<'a>(
-    card: &'a [u32],
-    term: u32,
-    from: u32,
-    to: u32,
-) -> Result<Counted<'a>, Refusal>
-    ensures number { number_of result ≡ question_number card.now term from to }
-    ensures count { IfOk result (λ r. (r.count ≡ length (found card.now term from to)) × (r.count < word_limit)) }
-    ensures left { IfOk result (λ r. left_at r.reader.card.now r.reader.cursor ≡ found card.now term from to) }
+pub fn open_counted<'a>(card: &'a [u32], q: Question) -> Result<Counted<'a>, Refusal>
+    ensures number { number_of result ≡ question_number card.now q.term q.from q.to }
+    ensures count { IfOk result (λ r. (r.count ≡ length (found card.now q.term q.from q.to)) × (r.count < word_limit)) }
+    ensures left { IfOk result (λ r. left_at r.reader.card.now r.reader.cursor ≡ found card.now q.term q.from q.to) }
 {
-    let counted = start_counted(card, term, from, to)?;
+    let counted = q.counted_walk(card)?;
     Ok(Counted {
         count: counted.count,
         reader: PostingReader {
@@ -86,29 +82,24 @@ impl<'a> Iterator for PostingReader<'a> {
     ghost remaining = { item_count left_in };
 
     // The next posting, or the end; nothing is judged.
+    #[inline]
     fn next(&mut self) -> Option<u32> {
         step_at(self.card, &mut self.cursor)
     }
 }
 
 // What a reader of the question yields after n others. Its contract speaks of no reader, so whoever calls it needs no walk by hand.
-pub fn posting(card: &[u32], term: u32, from: u32, to: u32, n: usize) -> Option<u32>
-    ensures { yield_of result ≡ yielded card.now term from to n }
+pub fn posting(card: &[u32], q: Question, n: usize) -> Option<u32>
+    ensures { yield_of result ≡ yielded card.now q.term q.from q.to n }
 {
-    open(card, term, from, to).nth(n)
+    open(card, q).nth(n)
 }
 
 // Opens a reader and reads the first postings, as many as there are answer words. Answers how many.
-pub fn read(
-    card: &[u32],
-    term: u32,
-    from: u32,
-    to: u32,
-    answer: &mut [u32],
-) -> Result<usize, Refusal>
-    ensures { ReadOff (number_of result) (result_unwrap_or result 0) answer.new (read card.now term from to answer.old) }
+pub fn read(card: &[u32], q: Question, answer: &mut [u32]) -> Result<usize, Refusal>
+    ensures { ReadOff (number_of result) (result_unwrap_or result 0) answer.new (read card.now q.term q.from q.to answer.old) }
 {
-    let cursor = open_at(card, term, from, to)?;
+    let cursor = open_at(card, q)?;
     let mut reader = PostingReader {
         number: 0,
         card,

@@ -5,4 +5,4 @@ use Rattle.reader.proofs.Readings.{Taking}
 use Rattle.reader.proofs.read.Given as goal
 
 abbrev pub invariant-loop-count : goal.invariant-loop-count
-invariant-loop-count l = Taking (found l.card l.term l.from l.to) (left_at l.reader.card.now l.reader.cursor) l.initial.answer l.answer l.count
+invariant-loop-count l = Taking (found l.card l.fn.q.term l.fn.q.from l.fn.q.to) (left_at l.reader.card.now l.reader.cursor) l.initial.answer l.answer l.count

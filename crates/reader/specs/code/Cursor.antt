@@ -1,6 +1,7 @@
 -- The posting reader's cursor, and what is yielded at it.
 use Rattle.std.specs.Prelude.{ℕ, Option, ◌+◌, ◌≤◌, ◌<◌, ◌≡◌, List, ◌++◌, length, take, drop, get_or}
 use Rattle.std.specs.Iterator.{YieldsFirst}
+use Rattle.found.specs.declared.walk.Walk.{Walk}
 use Rattle.found.specs.code.Walk.{ahead, ReadyWalk}
 use Rattle.reader.specs.declared.cursor.Cursor.{Cursor}
 use Rattle.reader.specs.Reader.{Yielded, posting, ended, yield_of}
@@ -23,11 +24,11 @@ pub record CursorAt (c : List ℕ) (k : Cursor) (ps : List ℕ) : Type 0 where
   pub stands : StandsIn c k
   pub rest : left_at c k ≡ ps
 
--- a cursor with a run in hand, where the same is left
-pub record RunInHand (c : List ℕ) (k r : Cursor) : Type 0 where
+-- a cursor before the next run of a walk, where what was ahead of the walk is left
+pub record NextInHand (c : List ℕ) (w : Walk) (r : Cursor) : Type 0 where
   pub some : 0 < r.left
-  pub stands : StandsIn c k → StandsIn c r
-  pub same : StandsIn c k → left_at c k ≡ left_at c r
+  pub stands : ReadyWalk c w → StandsIn c r
+  pub same : ReadyWalk c w → ahead c w ≡ left_at c r
 
 -- p is a word of the card
 pub record WordOf (c : List ℕ) (p : ℕ) : Type 0 where
