@@ -16,41 +16,10 @@ pub struct Ends {
     pub last: u64,
 }
 
-// Up to this many positions are compared without a loop.
-const FEW: usize = 4;
-
-// Whether a few positions rise, as `rises` says of any number.
-fn few_rise(positions: &[u32]) -> bool
-    requires { length positions.now ≤ 4 }
-    ensures { result ≡ rising_from 0 positions.now }
-{
-    let count = positions.len();
-    if count == 0 {
-        return true;
-    }
-    let first = positions[0];
-    if count == 1 {
-        return 0 < first;
-    }
-    let second = positions[1];
-    if count == 2 {
-        return (0 < first) & (first < second);
-    }
-    let third = positions[2];
-    if count == 3 {
-        return (0 < first) & (first < second) & (second < third);
-    }
-    let fourth = positions[3];
-    (0 < first) & (first < second) & (second < third) & (third < fourth)
-}
-
 // Whether each position is greater than the one before, and the first greater than 0.
 fn rises(positions: &[u32]) -> bool
     ensures { result ≡ rising_from 0 positions.now }
 {
-    if positions.len() <= FEW {
-        return few_rise(positions);
-    }
     let mut ok = true;
     let mut before: u32 = 0;
     for &position in positions {
