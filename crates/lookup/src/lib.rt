@@ -2,27 +2,41 @@
 
 #![tactic(auto)]
 
-ghost use Rattle.std.specs.Prelude.{◌≡◌, ◌+◌, ◌*◌};
+ghost use Rattle.std.specs.Prelude.{◌≡◌, ◌+◌, ◌*◌, ◌≤◌, length};
+ghost use Rattle.std.proofs.lemmas.List.Edits.{sets};
 ghost use Rattle.refusal.specs.Refusal.{number_of};
 ghost use Rattle.pair.specs.Bounds.{lowest, highest};
 ghost use Rattle.found.specs.Found.{question_number, lookup};
+ghost use Rattle.found.specs.code.Walk.{ahead, ReadyWalk};
 ghost use Rattle.found.specs.Views.{run, run_start, Viewed};
 ghost use Rattle.lookup.specs.Answer.{Answered, part_of};
 
-use crate::taking::copy_ahead;
 use found::Question;
-use found::walk::WalkCount;
+use found::walk::{Walk, WalkCount};
 use pair::Pair;
 use refusal::Refusal;
 use wanted::Part;
-
-mod taking; // the wanted positions of a walk moved to answer words
 
 // What a lookup found: so many positions, in so many blocks that were read.
 #[derive(Clone, Copy)]
 pub struct Found {
     pub count: u32,
     pub blocks: u32,
+}
+
+// Moves the wanted positions that are ahead to the first answer words.
+fn copy_ahead(card: &[u32], walk: Walk, answer: &mut [u32])
+    requires ready { ReadyWalk card.now walk }
+    requires answer_in_bounds { length (ahead card.now walk) ≤ length answer.old }
+    ensures { answer.new ≡ sets answer.old 0 (ahead card.now walk) }
+{
+    let mut left = walk;
+    let mut next: usize = 0;
+    while let Some(part) = left.next_run(card) {
+        let Part { start, len } = part;
+        answer[next..next + len].copy_from_slice(&card[start..start + len]);
+        next += len;
+    }
 }
 
 // Writes the live positions that a question asks for into the first answer words.
