@@ -1,3 +1,3 @@
 pub mod Rounds
 pub mod Twice
-pub mod Twins
+pub mod Sorting

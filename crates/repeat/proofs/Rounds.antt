@@ -9,13 +9,12 @@ use mathlib.Core.Bool.{Bool, true, false, ◌||◌, or_assoc, false≢true, or-f
 use mathlib.Core.List.{List, [], ◌∷◌, ◌++◌}
 use borrow.Author.Tests.{eq-eqb, ne_eqb, eqb-true, eqb-false}
 use lib.ListN.{length, take, drop, get_or, set, replicate, length-set, length-replicate, take-append-drop}
-use lib.Seq.{length-take-le, take_all, take-suc, take-suc-set, get_or-set_same, get_or-set_other}
+use lib.Seq.{take_all, take-suc, take-suc-set, get_or-set_same, get_or-set_other}
 use lib.Dec.{eqb}
 use Rattle.pair.proofs.Tests.{or_both, or_cases, or_intro, not_holds, test_ext}
 use Rattle.pair.proofs.Sets.{has, has_append, has_none}
-use Rattle.repeat.specs.declared.Round.{Round}
 use Rattle.repeat.specs.Repeats.{repeats}
-use Rattle.repeat.specs.code.Rounds.{slot_of, Empty, Leaves}
+use Rattle.repeat.specs.code.Rounds.{slot_of, Empty, Left}
 use Rattle.repeat.proofs.Twice.{has_one, repeats_one, repeats_more}
 
 -- Of the numbers read some are in their slots, and the rest found another there. What stands in v's slot is at v: 0 for nothing, else one more
@@ -173,43 +172,15 @@ module _ {bits size left i : ℕ} {numbers slots rest : List ℕ} (l : Leaving b
         parted = rw (one_more, kept) (parted_left l.parted x (rw e at z) (rw e at d));
       }
 
-  pub leaving_found :
-      (slot : ℕ) → slot ≡ slot_of bits x → get_or slots slot 0 ≡ x + 1 → Leaves numbers rest (record { found = true; left = 0 })
+  pub leaving_found : (slot : ℕ) → slot ≡ slot_of bits x → get_or slots slot 0 ≡ x + 1 → repeats numbers ≡ true
   leaving_found slot e h =
-      record {
-        few = zero-le;
-        whole =
-            ap repeats (sym (take-append-drop (i + 1) numbers))
-            ∙ repeats_more (take (i + 1) numbers) (drop (i + 1) numbers) (rw one_more (parted_found l.parted x (rw e at h)));
-      }
+      ap repeats (sym (take-append-drop (i + 1) numbers))
+      ∙ repeats_more (take (i + 1) numbers) (drop (i + 1) numbers) (rw one_more (parted_found l.parted x (rw e at h)))
 
 pub leaving_end :
-    {bits size left i : ℕ} {numbers slots rest : List ℕ} → Leaving bits numbers size slots rest left i → length numbers ≤ i →
-    Leaves numbers rest (record { found = false; left = left })
+    {bits size left i : ℕ} {numbers slots rest : List ℕ} → Leaving bits numbers size slots rest left i → length numbers ≤ i → Left numbers rest left
 leaving_end {bits} {size} {left} {i} {numbers} l h =
     record {
       few = omega (arith, l.few, l.within);
       whole = ap repeats (sym (take_all i numbers h)) ∙ l.parted.same;
     }
-
-module _ {numbers rest : List ℕ} {r : Round} (l : Leaves numbers rest r) where
-  pub leaves_found : r.found ≡ true → true ≡ repeats numbers
-  leaves_found f = sym (l.whole ∙ ap (λ t. t || repeats (take r.left rest)) f)
-
-  -- else a number stands twice exactly where one does among those left over
-  pub leaves_rest : {t : Bool} → r.found ≡ false → t ≡ repeats (take r.left rest) → t ≡ repeats numbers
-  leaves_rest f e = e ∙ sym (l.whole ∙ ap (λ t. t || repeats (take r.left rest)) f)
-
-  pub leaves_none : r.found ≡ false → r.left ≡ 0 → false ≡ repeats numbers
-  unfolding repeats
-  leaves_none f e = leaves_rest f (ap (λ n. repeats (take n rest)) (sym e))
-
-  -- those left over are as many as was said, and no more than there is room for
-  pub leaves_inside : length numbers ≤ 4096 → length rest ≡ 4096 → r.left ≤ length rest
-  leaves_inside h e = omega (arith, l.few)
-
-  pub leaves_length : length numbers ≤ 4096 → length rest ≡ 4096 → r.left ≡ length (take r.left rest)
-  leaves_length h e = sym (length-take-le r.left rest (leaves_inside h e))
-
-  pub leaves_few : length numbers ≤ 4096 → length rest ≡ 4096 → length (take r.left rest) ≤ 4096
-  leaves_few h e = omega (arith, leaves_length h e, l.few)

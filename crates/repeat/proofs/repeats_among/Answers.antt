@@ -1,7 +1,8 @@
--- `repeat::repeats_among` meets its contract, as `repeats_later` does.
-use native.Mathlib.Omega.{arith}
-use Rattle.repeat.proofs.Rounds.{leaves_none}
+-- `repeat::repeats_among` meets its contract: where none is left over, none stands twice.
+use Rattle.std.proofs.Common.{sym, ap, ◌∙◌, take}
+use Rattle.repeat.specs.Repeats.{repeats}
 use Rattle.repeat.proofs.repeats_among.Goals as goal
 
 pub returns-then-left-eq0 : goal.returns-then-left-eq0
-returns-then-left-eq0 c = leaves_none c.leave_over-first.ensures c.if-found.false (omega (arith, c.if-left-eq0.true))
+unfolding repeats
+returns-then-left-eq0 c = sym (c.in-Some.ensures.whole ∙ ap (λ n. repeats (take n c.leave_over.new.rest)) c.if-left-eq0.true)
