@@ -21,10 +21,7 @@ pub fn up_to(positions: &[u32], bound: u32) -> usize
     ensures { UpTo positions.now bound result }
 {
     let len = positions.len();
-    if len == 0 {
-        return 0;
-    }
-    if bound < positions[0] {
+    if len == 0 || bound < positions[0] {
         return 0;
     }
     if positions[len - 1] <= bound {
@@ -49,27 +46,18 @@ fn entry_part(positions: &[u32], after: u32, to: u32) -> Part
 {
     let start = up_to(positions, after);
     let end = up_to(positions, to);
-    if end <= start {
-        return Part { start, len: 0 };
-    }
     Part {
         start,
-        len: end - start,
+        len: end.saturating_sub(start),
     }
 }
 
 // Whether another entry is to be read at i: three words remain, and the next is not 0.
+#[tactic(auto, unfolding(block::specs::code::Scan::reads_on))]
 pub fn reads_on(words: &[u32], i: usize) -> bool
     ensures { result ≡ reads_on (drop i words.now) }
 {
-    let len = words.len();
-    if len <= i {
-        return false;
-    }
-    if len - i <= 2 {
-        return false;
-    }
-    words[i] != 0
+    2 < words.len().saturating_sub(i) && words[i] != 0
 }
 
 // The wanted positions of a block: it goes from entry to entry, to the first whose term is not below the wanted one.
@@ -90,11 +78,9 @@ pub fn block_part(words: &[u32], term: u32, after: u32, to: u32) -> Part
         let end = start + count;
         if next == term {
             let found = entry_part(&words[start..end], after, to);
-            let before = found.start;
-            let len = found.len;
             return Part {
-                start: start + before,
-                len,
+                start: start + found.start,
+                ..found
             };
         }
         i = end;
