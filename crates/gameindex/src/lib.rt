@@ -212,7 +212,7 @@ pub extern "C" fn gi_read(
 ) -> u32
     ensures { ReadOff result found.new answer.new (read card.now term from to answer.old) }
 {
-    match reader::read(card, term, from, to, answer) {
+    match reader::read(card, Question { term, from, to }, answer) {
         Ok(postings) => {
             *found = postings;
             0
@@ -236,7 +236,7 @@ pub extern "C" fn gi_page(
 ) -> u32
     ensures { Paged result lines.new memory.new (printed card.now term from to memory.old) }
 {
-    match page::page(card, term, from, to, memory) {
+    match page::page(card, Question { term, from, to }, memory) {
         Ok(count) => {
             *lines = count;
             0
