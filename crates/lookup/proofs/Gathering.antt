@@ -7,18 +7,27 @@ use mathlib.Core.List.{List, [], ◌++◌, append_assoc}
 use borrow.Rule.Slice.PartMut.{put_mid}
 use lib.ListN.{length, take, drop}
 use lib.Seq.{sets, sets-eq, drop-drop}
-use Rattle.pair.proofs.Lists.{sets_behind}
+use Rattle.pair.proofs.Lists.{length_part, sets_behind}
 use Rattle.wanted.specs.declared.Part.{Part}
 use Rattle.found.specs.declared.walk.Walk.{Walk}
 use Rattle.found.specs.code.Walk.{ahead, ReadyWalk, NextRun}
 use Rattle.found.proofs.Walking.{Taking, taking_start, taking_turn, taking_end}
 
 -- a part of a slice is written whole
-pub part_written : (l vs : List ℕ) (a e : ℕ) → a + length vs ≡ e → e ≤ length l → put_mid a (e - a) l vs ≡ sets l a vs
+part_written : (l vs : List ℕ) (a e : ℕ) → a + length vs ≡ e → e ≤ length l → put_mid a (e - a) l vs ≡ sets l a vs
 part_written l vs a e n h =
     let k : e - a ≡ length vs = omega arith in
     sym (sets-eq vs l a (omega arith) ∙ append_assoc (take a l) vs (drop (a + length vs) l)
     ∙ rw k (ap (λ d. take a l ++ (vs ++ d)) (sym (drop-drop (length vs) a l))))
+
+-- and with a part of another slice
+pub part_copied :
+    (l c : List ℕ) {ys : List ℕ} (a start n : ℕ) → start + n ≤ length c → a + n ≤ length l → ys ≡ take (start + n - start) (drop start c) →
+    put_mid a (a + n - a) l ys ≡ sets l a (take n (drop start c))
+part_copied l c {ys} a start n inside room e =
+    let m : start + n - start ≡ n = omega arith in
+    let same : ys ≡ take n (drop start c) = rw m at e in
+    rw same (part_written l (take n (drop start c)) a (a + n) (ap (λ k. a + k) (length_part c start n inside)) room)
 
 -- the positions that are left behind are moved to the first words
 pub record Moving (c l : List ℕ) (w now : Walk) (answer : List ℕ) (next : ℕ) : Type 0 where
