@@ -30,18 +30,17 @@ impl Pair {
     pub fn rank(self) -> u64
         ensures { result ≡ rank self.term self.position }
     {
-        let term = self.term;
-        let position = self.position;
-        term as u64 * TERM_STRETCH + position as u64
+        self.term as u64 * TERM_STRETCH + self.position as u64
     }
 
     // The pair that has a rank.
     pub fn of_rank(rank: u64) -> Pair
         ensures { result ≡ record { term = term rank; position = position rank } }
     {
-        let term = (rank / TERM_STRETCH) as u32;
-        let position = (rank % TERM_STRETCH) as u32;
-        Pair { term, position }
+        Pair {
+            term: (rank / TERM_STRETCH) as u32,
+            position: (rank % TERM_STRETCH) as u32,
+        }
     }
 }
 
@@ -65,6 +64,5 @@ pub fn is_pair(term: u32, position: u32) -> bool
 {
     let low = Pair::LOWEST;
     let high = Pair::HIGHEST;
-    ((low.term <= term) & (term <= high.term))
-        & ((low.position <= position) & (position <= high.position))
+    (low.term..=high.term).contains(&term) && (low.position..=high.position).contains(&position)
 }
