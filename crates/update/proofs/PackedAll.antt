@@ -7,6 +7,7 @@ use mathlib.Core.List.{List, [], ◌∷◌, ◌++◌, append-nil}
 use lib.ListN.{length, drop, length-append}
 use lib.Seq.{drop-append_seam}
 use lib.Dec.{ltb, eqb}
+use Rattle.std.proofs.Common.{None}
 use borrow.Author.Tests.{eqb-true, ne_eqb}
 use Rattle.pair.specs.Rank.{term, Proper, Words}
 use Rattle.pair.specs.Rising.{Each, above, last, keep}
@@ -42,7 +43,7 @@ use Rattle.update.proofs.Skipping.{freeing_start}
 use Rattle.update.proofs.Tallying.{told_more}
 
 pub packs_start : (c b : List ℕ) → Facts c → Remaining c (remains c b) →
-    Packs c b (record { used = 0; last = 0; tally = record { blocks = 0; free = 0; spent = record { count = 0; last = 0 } } }) (boundary c)
+    Packs c b (record { used = 0; last = 0; tally = record { blocks = 0; free = 0; spent = record { count = 0; last = None } } }) (boundary c)
 unfolding remains
 packs_start c b f q =
     let n : length_of_new c + 0 ≡ length_of_new c = omega arith in
@@ -55,7 +56,7 @@ packs_start c b f q =
         proper = q.proper;
       };
       inside = zero-le;
-      spends = record { freeing = freeing_start c 0 f; known = record { inside = λ h. absurd (let z : ⊥ = omega arith in z); is = λ h. absurd (let z : ⊥ = omega arith in z) } };
+      spends = record { freeing = freeing_start c 0 f; known = tt };
       after = zero-le;
     }
 

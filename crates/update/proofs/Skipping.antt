@@ -24,7 +24,8 @@ use Rattle.card.proofs.Facts.{Facts}
 use Rattle.card.proofs.Live.{place_words}
 use Rattle.card.proofs.Ordered.{shaped}
 use Rattle.update.specs.declared.old.OldCursor.{OldCursor}
-use Rattle.update.specs.code.Old.{coming, pending, Stands, Advanced, Skipped, before_first, Freeing}
+use Rattle.update.specs.declared.old.Spent.{Spent}
+use Rattle.update.specs.code.Old.{coming, pending, Stands, Advanced, Skipped, before_first, Freeing, EndsAt, Spends}
 use Rattle.update.specs.Step.{spent}
 use Rattle.update.proofs.Cursor.{place_block}
 
@@ -140,3 +141,7 @@ pub freeing_end : {c : List ℕ} {k n : ℕ} → Freeing c k n → length_of_old
 freeing_end {c} {k} {n} s h =
     let a : length_of_old c - n ≡ 0 = omega arith in
     sym (s.counted ∙ rw a (unfold around spent in add-zero n))
+
+-- the last pair of the place behind those that are spent, where it is told
+pub ends_there : {c : List ℕ} {k : ℕ} {s : Spent} (l : ℕ) → Spends c k s → s.last ≡ Some l → EndsAt c s.count l
+ends_there {c} {k} {s} l g e = rw e at g.known

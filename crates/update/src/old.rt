@@ -150,14 +150,17 @@ pub(crate) fn along(card: &[u32], old: OldCursor, n: usize) -> OldCursor
     }
 }
 
-// Leading old places with no pair above a rank: how many, and the last pair of the place behind them, 0 where it is not known.
+// Leading old places with no pair above a rank: how many, and the last pair of the place behind them, if it is known.
 #[derive(Clone, Copy)]
 pub(crate) struct Spent {
     pub(crate) count: u16,
-    pub(crate) last: u64,
+    pub(crate) last: Option<u64>,
 }
 
-pub(crate) const UNSPENT: Spent = Spent { count: 0, last: 0 };
+pub(crate) const UNSPENT: Spent = Spent {
+    count: 0,
+    last: None,
+};
 
 // The leading old places with no pair above a rank; the first so many have none.
 pub(crate) fn spent_from(card: &[u32], from: u16, rank: u64) -> Spent
@@ -166,15 +169,21 @@ pub(crate) fn spent_from(card: &[u32], from: u16, rank: u64) -> Spent
     ensures { SpentTo card.now rank result }
 {
     let k = Configuration::of(card);
-    let start = k.old_start;
-    let len = k.old_length;
-    for n in from..len {
-        let last = block::scan(layout::place(card, k.place_on(start, n))).unwrap().last;
+    for n in from..k.old_length {
+        let last = block::scan(layout::place(card, k.place_on(k.old_start, n)))
+            .unwrap()
+            .last;
         if rank < last {
-            return Spent { count: n, last };
+            return Spent {
+                count: n,
+                last: Some(last),
+            };
         }
     }
-    Spent { count: len, last: 0 }
+    Spent {
+        count: k.old_length,
+        last: None,
+    }
 }
 
 // The same from those with no pair above a lower rank; no block is scanned again.
@@ -183,13 +192,9 @@ pub(crate) fn spent_on(card: &[u32], spent: Spent, rank: u64) -> Spent
     requires spends { Spends card.now rank spent }
     ensures { SpentTo card.now rank result }
 {
-    let count = spent.count;
-    let last = spent.last;
-    if last == 0 {
-        return spent_from(card, count, rank);
+    match spent.last {
+        None => spent_from(card, spent.count, rank),
+        Some(last) if rank < last => spent,
+        Some(_) => spent_from(card, spent.count + 1, rank),
     }
-    if rank < last {
-        return spent;
-    }
-    spent_from(card, count + 1, rank)
 }

@@ -1,5 +1,5 @@
 -- The old segment read pair by pair: what is still to come after a place in it.
-use Rattle.std.specs.Prelude.{ℕ, zero, suc, ◌+◌, ◌-◌, ◌%◌, ◌≤◌, ◌<◌, ◌≡◌, true, cond, List, [], ◌∷◌, ◌++◌, length, take, drop, get_or, eqb}
+use Rattle.std.specs.Prelude.{IfSome, ℕ, zero, suc, ◌+◌, ◌-◌, ◌%◌, ◌≤◌, ◌<◌, ◌≡◌, true, cond, List, [], ◌∷◌, ◌++◌, length, take, drop, get_or, eqb}
 use Rattle.pair.specs.Rank.{rank}
 use Rattle.pair.specs.Rising.{above, rising_from, last}
 use Rattle.block.specs.Block.{pairs_from, pairs, formed_from}
@@ -95,15 +95,15 @@ pub record Freeing (c : List ℕ) (k n : ℕ) : Type 0 where
   pub sound : blocks_sound c (around (place_count c) (start_of_old c + n) (length_of_old c - n)) ≡ true
   pub counted : spent c k (old_places c) ≡ n + spent c k (around (place_count c) (start_of_old c + n) (length_of_old c - n))
 
--- where the last pair of the place behind those that are spent is told, it is that
-pub record Known (c : List ℕ) (s : Spent) : Type 0 where
-  pub inside : 0 < s.last → s.count < length_of_old c
-  pub is : 0 < s.last → s.last ≡ last 0 (pairs (place c ((start_of_old c + s.count) % place_count c)))
+-- the last pair of the place behind the first n
+pub record EndsAt (c : List ℕ) (n last_pair : ℕ) : Type 0 where
+  pub inside : n < length_of_old c
+  pub is : last_pair ≡ last 0 (pairs (place c ((start_of_old c + n) % place_count c)))
 
--- they are some of those with no pair above k
+-- they are some of those with no pair above k, and where the last pair of the place behind them is told, it is that
 pub record Spends (c : List ℕ) (k : ℕ) (s : Spent) : Type 0 where
   pub freeing : Freeing c k s.count
-  pub known : Known c s
+  pub known : IfSome s.last (EndsAt c s.count)
 
 -- and all of them
 pub record SpentTo (c : List ℕ) (k : ℕ) (s : Spent) : Type 0 where

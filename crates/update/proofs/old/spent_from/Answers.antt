@@ -40,7 +40,7 @@ returns-then-rank-last c =
     let last : c.unwrap-last.result.last ≡ last 0 (pairs (place c.args.card.now ((start_of_old c.args.card.now + c.loop-n.n) % place_count c.args.card.now))) =
     last_of (sym c.unwrap-last.ensures ∙ found s) in
     record {
-      spends = record { freeing = c.loop-n.invariant; known = record { inside = λ h. inside s; is = λ h. last } };
+      spends = record { freeing = c.loop-n.invariant; known = record { inside = inside s; is = last } };
       count = freeing_stop c.loop-n.invariant (inside s) words (rw last at c.if-rank-last.true);
     }
 
@@ -56,6 +56,6 @@ returns c =
     let o : Ordered c.args.card.now c.of-k.result = ordered_sound (facts _ c.requires.card_value) c.of-k.ensures in
     let all : c.loop-n.n ≡ c.of-k.result.old_length = omega (arith, o.of_old, c.loop-n.invariant.within) in
     record {
-      spends = record { freeing = subst (λ n. Freeing c.args.card.now c.args.rank n) all c.loop-n.invariant; known = record { inside = λ h. absurd (omega arith); is = λ h. absurd (omega arith) } };
+      spends = record { freeing = subst (λ n. Freeing c.args.card.now c.args.rank n) all c.loop-n.invariant; known = tt };
       count = freeing_end (subst (λ n. Freeing c.args.card.now c.args.rank n) all c.loop-n.invariant) (omega (arith, o.of_old));
     }
