@@ -6,7 +6,7 @@ use mathlib.Core.Bool.{Bool, true, false}
 use mathlib.Core.List.{List, [], ◌∷◌, ◌++◌, append_assoc, append-nil}
 use lib.ListN.{length, replicate, length-append, length-replicate}
 use lib.Dec.{eqb, eqb-suc-zero}
-use borrow.Author.Tests.{eq-eqb, ne_eqb, leb-false}
+use borrow.Author.Tests.{ne_eqb, leb-false}
 use Rattle.pair.specs.Rank.{term, Proper}
 use Rattle.pair.proofs.Each.{each_second}
 use Rattle.block.specs.Block.{cost}
@@ -19,7 +19,7 @@ use Rattle.card.specs.Layout.{block_size, boundary}
 use Rattle.card.proofs.Facts.{Facts}
 use Rattle.update.specs.declared.merge.Merge.{Merge}
 use Rattle.update.specs.code.Due.{Answers}
-use Rattle.update.specs.code.Merge.{left, Merged}
+use Rattle.update.specs.code.Merge.{left, Reached}
 use Rattle.update.specs.Step.{remains, due_block}
 use Rattle.update.proofs.Grown.{Remaining}
 
@@ -57,18 +57,19 @@ unfolding size
 size_none [] = refl
 size_none (k ∷ ks) = ne_eqb (size 0 (k ∷ ks)) 0 (omega (arith, length_size 0 (k ∷ ks))) ∙ sym (eqb-suc-zero (length ks))
 
-module _ {c b ws : List ℕ} {p : Packing} {k : ℕ} {r : Merge} (g : Fills c b ws p k) (f : Facts c) (m : Merged c b k r) where
-  -- no pair is left: all that remains is put
-  pub fills_end : r.rank ≡ 0 → Answers c (remains c b) ws (record { used = p.used; last = p.last; more = false })
-  fills_end n =
-      let e : remains c b ≡ g.ks ++ [] = g.split ∙ ap (λ l. g.ks ++ l) (m.next ∙ rw (eq-eqb r.rank 0 n)) in
-      rw e
-      (answering g.holds g.long (filled_end (block_size c) g.ks (omega (arith, g.holds.sized, g.holds.inside, g.long)))
-      (rw (append-nil, ← g.holds.sized) (size_none g.ks)))
+-- no pair is left: all that remains is put
+pub fills_end : {c b ws : List ℕ} {p : Packing} {k : ℕ} → Fills c b ws p k → Facts c → left c b k ≡ [] →
+    Answers c (remains c b) ws (record { used = p.used; last = p.last; more = false })
+fills_end {c} {b} g f n =
+    let e : remains c b ≡ g.ks ++ [] = g.split ∙ ap (λ l. g.ks ++ l) n in
+    rw e
+    (answering g.holds g.long (filled_end (block_size c) g.ks (omega (arith, g.holds.sized, g.holds.inside, g.long)))
+    (rw (append-nil, ← g.holds.sized) (size_none g.ks)))
 
-  module _ (n : r.rank ≡ 0 → ⊥) (q : Remaining c (remains c b)) where
+module _ {c b ws : List ℕ} {p : Packing} {k : ℕ} {r : Merge} (g : Fills c b ws p k) (f : Facts c) (m : Reached c b k r) where
+  module _ (q : Remaining c (remains c b)) where
     next_split : remains c b ≡ g.ks ++ r.rank ∷ left c b r.rank
-    next_split = g.split ∙ ap (λ l. g.ks ++ l) (m.next ∙ rw (ne_eqb r.rank 0 n))
+    next_split = g.split ∙ ap (λ l. g.ks ++ l) m.next
 
     next_proper : Proper r.rank
     next_proper = (each_second Proper g.ks (r.rank ∷ left c b r.rank) (rw next_split at q.proper)).0
@@ -98,4 +99,4 @@ module _ {c b ws : List ℕ} {p : Packing} {k : ℕ} {r : Merge} (g : Fills c b 
 
     -- the measure falls
     pub fills_less : length (left c b r.rank) < length (left c b k)
-    fills_less = rw (m.next, ne_eqb r.rank 0 n) (omega arith)
+    fills_less = rw m.next (omega arith)

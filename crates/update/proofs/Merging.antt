@@ -1,34 +1,38 @@
 -- The merge: what is left above the pair in hand, one pair after the other.
 use Prim.Native.Nat.{ℕ, ◌≤◌, ◌<◌}
 use native.Mathlib.Omega.{arith}
-use mathlib.Core.Path.{◌≡◌, refl, sym, ap, ◌∙◌}
-use mathlib.Core.Bool.{Bool, true, false, cond, not}
+use mathlib.Core.Path.{◌≡◌, refl, sym, ap, subst, ◌∙◌}
+use mathlib.Core.Logic.{◌⊎◌, inl, inr}
+use mathlib.Core.Bool.{Bool, true, false, cond, not, ◌&&◌}
 use mathlib.Core.List.{List, [], ◌∷◌}
 use lib.ListN.{length, drop, get_or}
 use lib.Seq.{drop-drop}
-use lib.Dec.{eqb}
+use lib.Dec.{ltb, eqb}
 use Rattle.std.specs.Option.{unwrap_or}
-use borrow.Author.Tests.{eqb-true, eq-eqb, ne_eqb}
-use Rattle.pair.specs.Rising.{above}
+use Rattle.std.proofs.Common.{Option, Some, None, IfSome, min}
+use borrow.Author.Tests.{eqb-true, eqb-false, ltb-true}
+use Rattle.pair.specs.Rank.{rank}
+use Rattle.pair.specs.Rising.{Each, above}
+use Rattle.pair.proofs.Tests.{compared, and_right}
 use Rattle.pair.proofs.Rising.{rises, rises_from}
 use Rattle.pair.proofs.Parts.{above_further, rises_next, each_above}
 use Rattle.card.specs.Layout.{boundary, live}
 use Rattle.card.proofs.Facts.{Facts}
 use Rattle.card.proofs.Live.{live_rising, live_above}
-use Rattle.batch.specs.Batch.{updates, withdrawn, with_added, batch_number}
+use Rattle.batch.specs.Batch.{Update, updates, applied, withdrawn, with_added, batch_number}
 use Rattle.batch.specs.code.Rounds.{round_reaches}
-use Rattle.batch.specs.code.Search.{lesser, least_added, before_added, next_addition, decided}
+use Rattle.batch.specs.code.Search.{lesser, least_added, adds_above, first_added, before_added, next_addition, decided}
 use Rattle.batch.specs.declared.Addition.{Addition}
 use Rattle.batch.specs.declared.Decision.{Decision}
 use Rattle.batch.proofs.InOrder.{in_order}
 use Rattle.batch.proofs.Meaning.{rises_with_added}
-use Rattle.batch.proofs.Merge.{first_above, first_above_with_added, applied_turn, applied_end}
+use Rattle.batch.proofs.Merge.{first_above, first_above_with_added, applied_turn, applied_end, lesser_none, lesser_left, lesser_right}
 use Rattle.batch.proofs.Search.{falls_drop, first_added_least, least_added_before}
 use Rattle.batch.proofs.Decisions.{follows_start, follows_next, follows_withdrawn}
 use Rattle.update.specs.declared.merge.Merge.{Merge}
 use Rattle.update.specs.declared.old.OldCursor.{OldCursor}
-use Rattle.update.specs.code.Merge.{Merges, Begun, left, Merged}
-use Rattle.update.specs.code.Old.{coming, pending, Skipped}
+use Rattle.update.specs.code.Merge.{Merges, Begun, left, Reached, lesser_of}
+use Rattle.update.specs.code.Old.{coming, pending, in_hand, Skipped}
 use Rattle.update.proofs.Skipping.{before_first_coming}
 
 pub merges_begun : {c b : List ℕ} {m : Merge} → Facts c → Begun c m → Merges c b m
@@ -49,17 +53,62 @@ first_pending c o = go (eqb o.rank 0) refl
     go true e = sym (eqb-true o.rank 0 e)
     go false e = refl
 
--- what a turn of the loop has found: the old cursor above the pair in hand, the addition, and the next pair
-pub record Turn (c b : List ℕ) (m : Merge) (q : OldCursor) (a : Addition) (x : ℕ) : Type 0 where
+-- the lesser of two pairs, by numbers, where 0 stands for none
+lesser_some : (a b : Option ℕ) (x : ℕ) → IfSome a (λ i. 0 < i) → IfSome b (λ i. 0 < i) → lesser_of a b ≡ Some x → (lesser (unwrap_or a 0) (unwrap_or b 0) ≡ x) × (0 < x)
+unfolding lesser
+lesser_some None b x h q e = (rw e, rw e at q)
+lesser_some (Some y) None x h q e = (lesser_none y ∙ cc, let z : y ≡ x = cc in omega arith)
+lesser_some (Some y) (Some z) x h q e = let m : min y z ≡ x = cc in go (compared y z) m
+  where
+    go : (y < z) ⊎ ((y ≡ z) ⊎ (z < y)) → min y z ≡ x → (lesser y z ≡ x) × (0 < x)
+    go (inl l) m = (lesser_left y z h (omega arith) ∙ omega arith, omega arith)
+    go (inr (inl l)) m = (lesser_left y z h (omega arith) ∙ omega arith, omega arith)
+    go (inr (inr l)) m = (lesser_right y z q (omega arith) ∙ omega arith, omega arith)
+
+lesser_end : (a b : Option ℕ) → lesser_of a b ≡ None → lesser (unwrap_or a 0) (unwrap_or b 0) ≡ 0
+unfolding lesser
+lesser_end None b e = rw e
+lesser_end (Some y) None e = cc
+lesser_end (Some y) (Some z) e = cc
+
+-- the addition found and the old pair in hand are pairs
+first_added_some : (us : List Update) (k : ℕ) → IfSome (first_added k us) (λ i. 0 < i)
+unfolding first_added adds_above
+first_added_some [] k = tt
+first_added_some (u ∷ us) k = go (first_added_some us k) (eqb u.kind 1 && ltb k (rank u.term u.from)) refl
+  where
+    go : IfSome (first_added k us) (λ i. 0 < i) → (t : Bool) → eqb u.kind 1 && ltb k (rank u.term u.from) ≡ t →
+        IfSome (cond t (Some (rank u.term u.from)) (first_added k us)) (λ i. 0 < i)
+    go rest true e = omega (arith, ltb-true k (rank u.term u.from) (and_right (eqb u.kind 1) (ltb k (rank u.term u.from)) e))
+    go rest false e = rest
+
+in_hand_some : (o : OldCursor) → IfSome (in_hand o) (λ i. 0 < i)
+unfolding in_hand
+in_hand_some o = go (eqb o.rank 0) refl
+  where
+    go : (t : Bool) → eqb o.rank 0 ≡ t → IfSome (cond t None (Some o.rank)) (λ i. 0 < i)
+    go true e = tt
+    go false e = omega (arith, eqb-false o.rank 0 e)
+
+in_hand_rank : (o : OldCursor) → unwrap_or (in_hand o) 0 ≡ o.rank
+unfolding in_hand
+in_hand_rank o = go (eqb o.rank 0) refl
+  where
+    go : (t : Bool) → eqb o.rank 0 ≡ t → unwrap_or (cond t None (Some o.rank)) 0 ≡ o.rank
+    go true e = sym (eqb-true o.rank 0 e)
+    go false e = refl
+
+-- what a turn of the loop has found: the old cursor above the pair in hand, the addition, and the next pair, if there is one
+pub record Turn (c b : List ℕ) (m : Merge) (q : OldCursor) (a : Addition) (r : Option ℕ) : Type 0 where
   pub sound : Facts c
   pub in_order : batch_number b ≡ 0
   pub skipped : Skipped c m.old m.rank q
   pub addition : a ≡ next_addition b m.addition m.rank
-  pub pair : x ≡ lesser (unwrap_or a.rank 0) q.rank
+  pub pair : r ≡ lesser_of a.rank (in_hand q)
 
-module _ {c b : List ℕ} {m : Merge} {q : OldCursor} {a : Addition} {x : ℕ} (g : Merges c b m) (t : Turn c b m q a x) where
-  old_first : first_above m.rank (live c) ≡ q.rank
-  old_first = unfold first_above in ap (λ l. get_or l 0 0) (g.olds ∙ sym t.skipped.next) ∙ first_pending c q
+module _ {c b : List ℕ} {m : Merge} {q : OldCursor} {a : Addition} {r : Option ℕ} (g : Merges c b m) (t : Turn c b m q a r) where
+  old_first : first_above m.rank (live c) ≡ unwrap_or (in_hand q) 0
+  old_first = unfold first_above in ap (λ l. get_or l 0 0) (g.olds ∙ sym t.skipped.next) ∙ first_pending c q ∙ sym (in_hand_rank q)
 
   added_first : least_added m.rank (updates b) ≡ unwrap_or a.rank 0
   unfolding next_addition
@@ -68,27 +117,40 @@ module _ {c b : List ℕ} {m : Merge} {q : OldCursor} {a : Addition} {x : ℕ} (
       let o = falls_drop m.addition (updates b) 0 (in_order b t.in_order).ordered in
       g.adds m.rank (omega arith) ∙ rw t.addition (sym (first_added_least us 0 m.rank o))
 
-  first : first_above m.rank (with_added (updates b) (live c)) ≡ x
-  first = first_above_with_added m.rank (updates b) (live c) ∙ rw (old_first, added_first) (sym t.pair)
+  added_some : IfSome a.rank (λ i. 0 < i)
+  unfolding next_addition
+  added_some = rw t.addition (first_added_some (drop m.addition (updates b)) m.rank)
+
+  first : first_above m.rank (with_added (updates b) (live c)) ≡ lesser (unwrap_or a.rank 0) (unwrap_or (in_hand q) 0)
+  first = first_above_with_added m.rank (updates b) (live c) ∙ rw (old_first, added_first)
 
   live_rises : rises (live c) ≡ true
   live_rises = rises_from (live c) 0 (live_rising c t.sound)
 
   -- no pair is left
-  pub turn_end : x ≡ 0 → left c b m.rank ≡ []
-  turn_end n = applied_end m.rank (updates b) (live c) (first ∙ n)
+  pub turn_end : r ≡ None → left c b m.rank ≡ []
+  turn_end n = applied_end m.rank (updates b) (live c) (first ∙ lesser_end a.rank (in_hand q) (sym t.pair ∙ n))
 
-  module _ (n : x ≡ 0 → ⊥) where
+  module _ (x : ℕ) (e : r ≡ Some x) where
+    found : (lesser (unwrap_or a.rank 0) (unwrap_or (in_hand q) 0) ≡ x) × (0 < x)
+    found = lesser_some a.rank (in_hand q) x added_some (in_hand_some q) (sym t.pair ∙ e)
+
+    some : 0 < x
+    some = found.1
+
+    firsts : first_above m.rank (with_added (updates b) (live c)) ≡ x
+    firsts = first ∙ found.0
+
     -- what is left starts with the next pair, unless it is withdrawn
     turn_left : left c b m.rank ≡ cond (not (withdrawn (updates b) x)) (x ∷ left c b x) (left c b x)
-    turn_left = applied_turn m.rank x (updates b) (live c) live_rises first (omega arith)
+    turn_left = applied_turn m.rank x (updates b) (live c) live_rises firsts (omega (arith, some))
 
     -- the pairs of the set with the added ones start with it too
     rest_next : above m.rank (with_added (updates b) (live c)) ≡ x ∷ above x (with_added (updates b) (live c))
-    rest_next = go (above m.rank (with_added (updates b) (live c))) refl (unfold first_above in first)
+    rest_next = go (above m.rank (with_added (updates b) (live c))) refl (unfold first_above in firsts)
       where
         go : (ys : List ℕ) → above m.rank (with_added (updates b) (live c)) ≡ ys → get_or ys 0 0 ≡ x → ys ≡ x ∷ above x (with_added (updates b) (live c))
-        go [] e h = absurd (n (sym h))
+        go [] e h = absurd (omega (arith, some))
         go (y ∷ ys) e h = rw (sym (rises_next (with_added (updates b) (live c)) m.rank y ys (rises_with_added (updates b) (live c) live_rises) e)) (rw h refl)
 
     next_above : m.rank < x
@@ -99,9 +161,9 @@ module _ {c b : List ℕ} {m : Merge} {q : OldCursor} {a : Addition} {x : ℕ} (
     turn_less = rw rest_next (omega arith)
 
     -- what is decided of it, and the place at it
-    module _ (d : Decision) (e : d ≡ decided b (round_reaches (updates b)) m.decisions x) where
+    module _ (d : Decision) (f : d ≡ decided b (round_reaches (updates b)) m.decisions x) where
       decides : d.withdrawn ≡ withdrawn (updates b) x
-      decides = rw e (follows_withdrawn g.decides t.in_order x (omega (arith, next_above)) (omega arith))
+      decides = rw f (follows_withdrawn g.decides t.in_order x (omega (arith, next_above)) (omega (arith, some)))
 
       pub turn_kept : d.withdrawn ≡ false → left c b m.rank ≡ x ∷ left c b x
       turn_kept z = turn_left ∙ rw (sym decides ∙ z)
@@ -116,7 +178,7 @@ module _ {c b : List ℕ} {m : Merge} {q : OldCursor} {a : Addition} {x : ℕ} (
             stands = t.skipped.stands;
             olds = sym (above_further m.rank x (live c) (omega (arith, next_above))) ∙ ap (above x) (g.olds ∙ sym t.skipped.next);
             adds = λ j h. further j (omega (arith, next_above));
-            decides = rw e (follows_next g.decides (round_reaches (updates b)) x (omega (arith, next_above)));
+            decides = rw f (follows_next g.decides (round_reaches (updates b)) x (omega (arith, next_above)));
           }
         where
           -- no further record is passed over than adds nothing above the pair in hand
@@ -125,9 +187,6 @@ module _ {c b : List ℕ} {m : Merge} {q : OldCursor} {a : Addition} {x : ℕ} (
               let us = drop m.addition (updates b) in
               rw t.addition (g.adds j h ∙ least_added_before us m.rank j h ∙ ap (least_added j) (drop-drop (before_added m.rank us) m.addition (updates b)))
 
--- the answer at the end, and at a pair that is kept
-pub merged_end : {c b : List ℕ} {k : ℕ} {r : Merge} → r.rank ≡ 0 → left c b k ≡ [] → Merged c b k r
-merged_end {c} {b} {k} {r} z e = record { next = rw (eq-eqb r.rank 0 z) e; merges = λ n. absurd (n z) }
-
-pub merged_kept : {c b : List ℕ} {k : ℕ} {r : Merge} → (r.rank ≡ 0 → ⊥) → left c b k ≡ r.rank ∷ left c b r.rank → Merges c b r → Merged c b k r
-merged_kept {c} {b} {k} {r} n e g = record { next = rw (ne_eqb r.rank 0 n) e; merges = λ h. g }
+-- the next pair is above
+pub reached_above : {c b : List ℕ} {k : ℕ} {m : Merge} → Reached c b k m → k < m.rank
+reached_above {c} {b} {k} {m} r = (subst (Each (λ i. k < i)) r.next (each_above k (applied (updates b) (live c)))).0

@@ -8,11 +8,10 @@ use lib.ListN.{length, drop, length-append}
 use lib.Seq.{drop-append_seam}
 use lib.Dec.{ltb, eqb}
 use Rattle.std.proofs.Common.{None}
-use borrow.Author.Tests.{eqb-true, ne_eqb}
+use borrow.Author.Tests.{eqb-true}
 use Rattle.pair.specs.Rank.{term, Proper, Words}
 use Rattle.pair.specs.Rising.{Each, above, last, keep}
 use Rattle.pair.proofs.Keep.{length_keep}
-use Rattle.pair.proofs.Parts.{each_above}
 use Rattle.pair.proofs.Rising.{rising_first, rising_above}
 use Rattle.pair.proofs.Each.{each_last}
 use Rattle.block.specs.Block.{packed_after, fitting}
@@ -33,11 +32,12 @@ use Rattle.update.specs.declared.old.OldCursor.{OldCursor}
 use Rattle.update.specs.Forecast.{free_writes, foreseen, outlook}
 use Rattle.update.specs.Pass.{blocks, limit_for, step_limit}
 use Rattle.update.specs.Step.{remains, freed}
-use Rattle.update.specs.code.Merge.{left, Merged, run_at, place_along, Runs}
+use Rattle.update.specs.code.Merge.{left, Reached, run_at, place_along, Runs}
 use Rattle.update.specs.code.Tally.{blocks_most, free_with, Told, Counts, Addable, Added, Packs, PackedAll}
 use Rattle.update.proofs.Blocks.{blocks_none, blocks_few}
 use Rattle.update.proofs.Cursor.{positions_room}
 use Rattle.update.proofs.Grown.{Remaining}
+use Rattle.update.proofs.Merging.{reached_above}
 use Rattle.update.proofs.Running.{along_some, last_run, place_along_some}
 use Rattle.update.proofs.Skipping.{freeing_start}
 use Rattle.update.proofs.Tallying.{told_more}
@@ -97,7 +97,7 @@ unfolding run_at last place_along
 run_rank c m zero = refl
 run_rank c m (suc n) = run_some c m (suc n) (omega arith)
 
-module _ {c b : List ℕ} {f : Filling} {k : ℕ} {m : Merge} {n : ℕ} (g : Packs c b f k) (e : Merged c b k m) (z : m.rank ≡ 0 → ⊥) (r : Runs c b m n) where
+module _ {c b : List ℕ} {f : Filling} {k : ℕ} {m : Merge} {n : ℕ} (g : Packs c b f k) (e : Reached c b k m) (r : Runs c b m n) where
   abbrev x : ℕ
   x = m.rank
 
@@ -109,15 +109,15 @@ module _ {c b : List ℕ} {f : Filling} {k : ℕ} {m : Merge} {n : ℕ} (g : Pac
 
   -- what was left is the pair, the run and what is left behind it
   parts : left c b k ≡ x ∷ run ++ left c b y
-  parts = e.next ∙ rw (ne_eqb x 0 z) (ap (λ l. x ∷ l) (r.pairs ∙ ap (λ l. l ++ left c b y) (run_term c b m n r)))
+  parts = e.next ∙ ap (λ l. x ∷ l) (r.pairs ∙ ap (λ l. l ++ left c b y) (run_term c b m n r))
 
   higher : k < x
-  higher = (subst (Each (λ i. k < i)) parts (each_above k (applied (updates b) (live c)))).0
+  higher = reached_above e
 
   pub packs_addable : Facts c → batch_number b ≡ 0 → f.tally.blocks ≤ blocks_most → Addable c f x m.old.at n
   packs_addable s o l =
       let p = r.inside in
-      let q = (e.merges z).stands in
+      let q = e.merges.stands in
       record {
         inside = g.inside;
         few = l;

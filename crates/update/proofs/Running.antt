@@ -249,3 +249,7 @@ runs_up_to {c} {b} {m} f w g hand h t z n u q = (going f w g hand h t z u n few 
             rw (← get_or-drop m.old.at c j 0, ← get_or-take m.old.count (drop m.old.at c) j 0 (omega (arith, few))) (leb-true (get_or ps j 0) z e)
         go false e =
             absurd (omega (arith, q.count (positions_rise g.stands), q.inside, at_most_out ps 0 j z (positions_rise g.stands) (omega (arith, q.inside)) (leb-false (get_or ps j 0) z e)))
+
+-- its words are in the card
+pub run_room : {c b : List ℕ} {m : Merge} → Merges c b m → m.old.at + m.old.count ≤ length c
+run_room g = omega (arith, positions_room g.stands, g.stands.ends)

@@ -3,15 +3,14 @@ use Prim.Native.Nat.{ℕ, suc, ◌+◌, ◌-◌, ◌%◌, ◌≤◌, ◌<◌, ze
 use native.Mathlib.Omega.{arith}
 use native.Mathlib.Nat.{add-zero}
 use mathlib.Core.Path.{◌≡◌, refl, sym, ◌∙◌}
-use mathlib.Core.Bool.{Bool, true, false, ◌&&◌, not}
+use mathlib.Core.Bool.{Bool, true, false}
 use mathlib.Core.List.{List, ◌∷◌}
 use lib.ListN.{length, get_or}
-use lib.Dec.{ltb, leb, eqb}
-use borrow.Author.Tests.{leb-true, leb-false, not-true, lt-ltb, le-ltb}
+use lib.Dec.{ltb, eqb}
+use borrow.Author.Tests.{eqb-false, ne_eqb, lt-ltb, le-ltb}
 use Rattle.pair.specs.Rank.{Words}
 use Rattle.std.proofs.Common.{Some}
 use Rattle.pair.specs.Rising.{keep, above, any, last}
-use Rattle.pair.proofs.Tests.{and_left, and_right}
 use Rattle.pair.proofs.Parts.{above_all}
 use Rattle.pair.proofs.Rising.{any_last, rising_cons}
 use Rattle.block.specs.Block.{pairs, formed}
@@ -47,10 +46,6 @@ before_first_stands c f =
       rising = rw (before_first_coming c) f.old_rising;
     }
 
--- the test of the loop that goes on to the first pair above k
-abbrev pub behind : OldCursor → ℕ → Bool
-behind o k = not (eqb o.rank 0) && leb o.rank k
-
 pub record Skips (c : List ℕ) (o : OldCursor) (k : ℕ) (p : OldCursor) : Type 0 where
   pub stands : Stands c p
   pub same : above k (pending c o) ≡ above k (pending c p)
@@ -58,31 +53,27 @@ pub record Skips (c : List ℕ) (o : OldCursor) (k : ℕ) (p : OldCursor) : Type
 pub skips_start : {c : List ℕ} {o : OldCursor} → Stands c o → (k : ℕ) → Skips c o k o
 skips_start s k = record { stands = s; same = refl }
 
-in_hand : (c : List ℕ) (p : OldCursor) (k : ℕ) → behind p k ≡ true → pending c p ≡ p.rank ∷ coming c p
+there : (c : List ℕ) (p : OldCursor) → (p.rank ≡ 0 → ⊥) → pending c p ≡ p.rank ∷ coming c p
 unfolding pending
-in_hand c p k e = rw (not-true (eqb p.rank 0) (and_left (not (eqb p.rank 0)) (leb p.rank k) e))
+there c p n = rw (ne_eqb p.rank 0 n)
 
-pub skips_turn : {c : List ℕ} {o : OldCursor} {k : ℕ} {p r : OldCursor} → Skips c o k p → behind p k ≡ true → Advanced c p r → Skips c o k r
-skips_turn {c} {o} {k} {p} {r} s e a =
-    record {
-      stands = a.stands;
-      same = s.same ∙ rw (in_hand c p k e, a.next) (low (le-ltb k p.rank (leb-true p.rank k (and_right (not (eqb p.rank 0)) (leb p.rank k) e))));
-    }
+pub skips_turn : {c : List ℕ} {o : OldCursor} {k : ℕ} {p r : OldCursor} → Skips c o k p → (p.rank ≡ 0 → ⊥) → p.rank ≤ k → Advanced c p r → Skips c o k r
+skips_turn {c} {o} {k} {p} {r} s n l a = record { stands = a.stands; same = s.same ∙ rw (there c p n, a.next) (low (le-ltb k p.rank l)) }
   where
     low : ltb k p.rank ≡ false → above k (p.rank ∷ coming c p) ≡ above k (coming c p)
     low f = unfold above keep in rw f
 
-pub skips_less : (c : List ℕ) (k : ℕ) (p r : OldCursor) → behind p k ≡ true → Advanced c p r → length (pending c r) < length (pending c p)
-skips_less c k p r e a = rw (in_hand c p k e, a.next) (omega arith)
+pub skips_less : (c : List ℕ) (p r : OldCursor) → (p.rank ≡ 0 → ⊥) → Advanced c p r → length (pending c r) < length (pending c p)
+skips_less c p r n a = rw (there c p n, a.next) (omega arith)
 
-pub skips_end : {c : List ℕ} {o : OldCursor} {k : ℕ} {p : OldCursor} → Skips c o k p → behind p k ≡ false → Skipped c o k p
-skips_end {c} {o} {k} {p} s e = record { stands = s.stands; next = sym (s.same ∙ go (eqb p.rank 0) refl e) }
+pub skips_end : {c : List ℕ} {o : OldCursor} {k : ℕ} {p : OldCursor} → Skips c o k p → ((p.rank ≡ 0 → ⊥) → k < p.rank) → Skipped c o k p
+skips_end {c} {o} {k} {p} s e = record { stands = s.stands; next = sym (s.same ∙ go (eqb p.rank 0) refl) }
   where
-    go : (t : Bool) → eqb p.rank 0 ≡ t → (not t && leb p.rank k) ≡ false → above k (pending c p) ≡ pending c p
-    go true f g = unfold pending above keep in rw f
-    go false f g =
+    go : (t : Bool) → eqb p.rank 0 ≡ t → above k (pending c p) ≡ pending c p
+    go true f = unfold pending above keep in rw f
+    go false f =
         unfold pending in
-        let l : k < p.rank = leb-false p.rank k g in
+        let l : k < p.rank = e (eqb-false p.rank 0 f) in
         rw f (above_all (p.rank ∷ coming c p) k k (omega arith) (rising_cons p.rank (coming c p) k l s.stands.rising))
 
 pub freeing_start : (c : List ℕ) (k : ℕ) → Facts c → Freeing c k 0

@@ -24,11 +24,10 @@ use Rattle.batch.proofs.Decisions.{follows_later}
 use Rattle.update.specs.declared.forecast.Filling.{Filling}
 use Rattle.update.specs.declared.merge.Merge.{Merge}
 use Rattle.update.specs.declared.old.OldCursor.{OldCursor}
-use Rattle.update.specs.code.Merge.{Merges, left, Merged, place_along, Runs}
+use Rattle.update.specs.code.Merge.{Merges, left, Reached, place_along, Runs}
 use Rattle.update.specs.code.Old.{rest, coming, entry_read, Stands, Advanced, position_on, along}
 use Rattle.update.specs.code.Tally.{Addable, Added, Packs}
 use Rattle.update.proofs.Cursor.{positions_room, coming_position, advanced_position, advanced_entry}
-use Rattle.update.proofs.Merging.{merged_kept}
 use Rattle.update.proofs.PackedAll.{packs_addable, packs_turn, packs_less, packs_few}
 use Rattle.update.proofs.Running.{along_some, place_along_some, positions_rise, one_above, one_left, one_merges, going}
 
@@ -133,12 +132,14 @@ module _ {c b : List ℕ} {k bound addition : ℕ} {d : Cursor} {o : OldCursor} 
     there : Merges c b place
     there = one_merges s g.merges g.hand low advanced some (follows_later g.merges.decides (omega (arith, up)))
 
-    pub entry_merged : Merged c b last place
+    pub entry_merged : Reached c b last place
     entry_merged =
-        merged_kept (λ q. omega arith)
-        (one_left s g.merges g.hand low advanced some (λ y l m. (free y (omega (arith, g.further)) (omega (arith, higher))).absent)
-        (untouched_stays_law (free first.rank (omega (arith, g.further, up)) (omega (arith, higher)))))
-        there
+        record {
+          next =
+              (one_left s g.merges g.hand low advanced some (λ y l m. (free y (omega (arith, g.further)) (omega (arith, higher))).absent)
+              (untouched_stays_law (free first.rank (omega (arith, g.further, up)) (omega (arith, higher)))));
+          merges = there;
+        }
 
     pub entry_runs : Runs c b place first.count
     entry_runs =
@@ -152,13 +153,13 @@ module _ {c b : List ℕ} {k bound addition : ℕ} {d : Cursor} {o : OldCursor} 
     place_whole (suc n) q = place_along_some c place first.count (omega arith)
 
     pub entry_addable : batch_number b ≡ 0 → Addable c f first.rank first.at first.count
-    entry_addable n = packs_addable g.packs entry_merged (λ q. omega arith) entry_runs s n (packs_few g.packs s w n)
+    entry_addable n = packs_addable g.packs entry_merged entry_runs s n (packs_few g.packs s w n)
 
     pub sweeps_turn : (r : Filling) → Added c f first.rank first.at first.count r → Sweeps c b k bound addition d whole r whole.rank
     sweeps_turn r a =
         let p = place_whole first.count refl in
         record {
-          packs = subst (λ (m : Merge). Packs c b r m.rank) p (packs_turn g.packs entry_merged (λ q. omega arith) entry_runs r a);
+          packs = subst (λ (m : Merge). Packs c b r m.rank) p (packs_turn g.packs entry_merged entry_runs r a);
           merges = subst (Merges c b) p entry_runs.merges;
           hand = refl;
           further = omega (arith, g.further, up, higher);
@@ -167,7 +168,7 @@ module _ {c b : List ℕ} {k bound addition : ℕ} {d : Cursor} {o : OldCursor} 
     pub sweeps_less : length (left c b whole.rank) < length (left c b last)
     sweeps_less =
         subst (λ (m : Merge). length (left c b m.rank) < length (left c b last)) (place_whole first.count refl)
-        (packs_less g.packs entry_merged (λ q. omega arith) entry_runs)
+        (packs_less g.packs entry_merged entry_runs)
 
 -- what is left above a later pair is no more
 pub left_fewer : (c b : List ℕ) (k j : ℕ) → k ≤ j → length (left c b j) ≤ length (left c b k)

@@ -44,14 +44,12 @@ pub(crate) fn fill(card: &[u32], batch: &[u32], reaches: &[u32], words: &mut [u3
 {
     let mut place = merge::start(card);
     let mut packing = pack::EMPTY;
-    loop {
-        place = merge::next(card, batch, reaches, place);
-        if place.rank == 0 {
-            return Due::of(packing, false);
-        }
-        let Some(put) = pack::put(words, packing, place.rank) else {
+    while let Some(next) = merge::next(card, batch, reaches, place) {
+        let Some(put) = pack::put(words, packing, next.rank) else {
             return Due::of(packing, true);
         };
+        place = next;
         packing = put;
     }
+    Due::of(packing, false)
 }

@@ -273,24 +273,17 @@ fn pack_all(card: &[u32], batch: &[u32], reaches: &[u32]) -> Filling
     let size = k.size as usize;
     let mut place = merge::start(card);
     let mut filling = NOTHING;
-    loop {
-        place = merge::next(card, batch, reaches, place);
-        let rank = place.rank;
-        if rank == 0 {
-            return filling;
+    while let Some(next) = merge::next(card, batch, reaches, place) {
+        let more = merge::run(card, batch, reaches, next);
+        filling = add(card, size, filling, next.rank, next.old.at, more);
+        place = merge::along(card, next, more);
+        if reaches.is_empty() && more == next.old.count {
+            let packed = add_entries(card, batch, reaches, size, Packed { filling, place });
+            filling = packed.filling;
+            place = packed.place;
         }
-        let more = merge::run(card, batch, reaches, place);
-        let old = place.old;
-        let count = old.count;
-        filling = add(card, size, filling, rank, old.at, more);
-        place = merge::along(card, place, more);
-        if (reaches.len() != 0) | (more != count) {
-            continue;
-        }
-        let packed = add_entries(card, batch, reaches, size, Packed { filling, place });
-        filling = packed.filling;
-        place = packed.place;
     }
+    filling
 }
 
 // The step limit for so many blocks.

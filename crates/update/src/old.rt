@@ -1,7 +1,7 @@
 // The old segment read pair by pair.
 ghost use Rattle.std.specs.Prelude.{◌≡◌, ◌≤◌};
 ghost use Rattle.card.specs.Sound.{judged};
-ghost use Rattle.update.specs.code.Old.{BlockEntry, entry_read, Stands, Advanced, Skipped, before_first, along, Freeing, Spends, SpentTo};
+ghost use Rattle.update.specs.code.Old.{in_hand, BlockEntry, entry_read, Stands, Advanced, Skipped, before_first, along, Freeing, Spends, SpentTo};
 
 use card::layout;
 use card::layout::Configuration;
@@ -19,6 +19,19 @@ pub(crate) struct OldCursor {
     pub(crate) term: u32,
     pub(crate) count: usize,
     pub(crate) rank: u64,
+}
+
+impl OldCursor {
+    // The pair in hand, if there is one.
+    #[tactic(auto, unfolding(crate::specs::code::Old::in_hand))]
+    pub(crate) fn in_hand(self) -> Option<u64>
+        ensures { result ≡ in_hand self }
+    {
+        if self.rank == 0 {
+            return None;
+        }
+        Some(self.rank)
+    }
 }
 
 // Reads the first pair of the entry at a word.
@@ -49,45 +62,37 @@ fn next(card: &[u32], old: OldCursor) -> OldCursor
     requires { Stands card.now old }
     ensures { Advanced card.now old result }
 {
-    let place = old.place;
-    let places = old.places;
-    let at = old.at;
-    let end = old.end;
-    let term = old.term;
-    let count = old.count;
-    if 0 < count {
+    if 0 < old.count {
         let pair = Pair {
-            term,
-            position: card[at],
+            term: old.term,
+            position: card[old.at],
         };
         return OldCursor {
-            place,
-            places,
-            at: at + 1,
-            end,
-            term,
-            count: count - 1,
+            at: old.at + 1,
+            count: old.count - 1,
             rank: pair.rank(),
+            ..old
         };
     }
-    if reads_on(&card[..end], at) {
-        return entry(card, at, end, place, places);
+    if reads_on(&card[..old.end], old.at) {
+        return entry(card, old.at, old.end, old.place, old.places);
     }
-    if places == 0 {
+    if old.places == 0 {
         return OldCursor {
-            place,
-            places,
-            at: end,
-            end,
-            term,
-            count,
+            at: old.end,
             rank: 0,
+            ..old
         };
     }
     let k = Configuration::of(card);
-    let start = layout::place_start(card, place);
-    let end = start + k.size as usize;
-    entry(card, start, end, k.place_on(place, 1), places - 1)
+    let start = layout::place_start(card, old.place);
+    entry(
+        card,
+        start,
+        start + k.size as usize,
+        k.place_on(old.place, 1),
+        old.places - 1,
+    )
 }
 
 // The first old pair.
@@ -114,7 +119,7 @@ pub(crate) fn skip(card: &[u32], old: OldCursor, rank: u64) -> OldCursor
     ensures { Skipped card.now old rank result }
 {
     let mut o = old;
-    while (o.rank != 0) & (o.rank <= rank) {
+    while o.rank != 0 && o.rank <= rank {
         o = next(card, o);
     }
     o
@@ -129,24 +134,16 @@ pub(crate) fn along(card: &[u32], old: OldCursor, n: usize) -> OldCursor
     if n == 0 {
         return old;
     }
-    let place = old.place;
-    let places = old.places;
-    let end = old.end;
-    let term = old.term;
-    let count = old.count - n;
     let at = old.at + n;
     let pair = Pair {
-        term,
+        term: old.term,
         position: card[at - 1],
     };
     OldCursor {
-        place,
-        places,
         at,
-        end,
-        term,
-        count,
+        count: old.count - n,
         rank: pair.rank(),
+        ..old
     }
 }
 

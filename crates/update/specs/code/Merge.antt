@@ -1,5 +1,5 @@
 -- The merge of the old pairs with a batch.
-use Rattle.std.specs.Prelude.{ℕ, zero, suc, ◌+◌, ◌≤◌, ◌<◌, ◌≡◌, cond, List, [], ◌∷◌, ◌++◌, drop, get_or, eqb}
+use Rattle.std.specs.Prelude.{ℕ, zero, suc, ◌+◌, ◌≤◌, ◌<◌, ◌≡◌, min, Option, Some, None, List, [], ◌∷◌, ◌++◌, drop, get_or}
 use Rattle.pair.specs.Rank.{rank, term}
 use Rattle.pair.specs.Rising.{above}
 use Rattle.card.specs.Layout.{boundary, live}
@@ -27,10 +27,21 @@ pub record Begun (c : List ℕ) (m : Merge) : Type 0 where
 abbrev pub left : List ℕ → List ℕ → ℕ → List ℕ
 left c b k = above k (applied (updates b) (live c))
 
--- the place at the next pair: what was left above k is that pair and what is left above it, or there is none
-pub record Merged (c b : List ℕ) (k : ℕ) (r : Merge) : Type 0 where
-  pub next : left c b k ≡ cond (eqb r.rank 0) [] (r.rank ∷ left c b r.rank)
-  pub merges : (r.rank ≡ 0 → ⊥) → Merges c b r
+-- the place at the next pair: what was left above k is that pair and what is left above it
+pub record Reached (c b : List ℕ) (k : ℕ) (m : Merge) : Type 0 where
+  pub next : left c b k ≡ m.rank ∷ left c b m.rank
+  pub merges : Merges c b m
+
+-- that place, or none, where nothing is left
+abbrev pub Merged : List ℕ → List ℕ → ℕ → Option Merge → Type 0
+Merged c b k None = left c b k ≡ []
+Merged c b k (Some m) = Reached c b k m
+
+-- the lesser of two pairs, if there is one
+abbrev pub lesser_of : Option ℕ → Option ℕ → Option ℕ
+lesser_of None b = b
+lesser_of (Some x) None = Some x
+lesser_of (Some x) (Some y) = Some (min x y)
 
 -- the pairs of the term t with the positions in n words from at on
 unfoldable pub run_at : List ℕ → ℕ → ℕ → ℕ → List ℕ

@@ -1,5 +1,5 @@
 -- The old segment read pair by pair: what is still to come after a place in it.
-use Rattle.std.specs.Prelude.{IfSome, ℕ, zero, suc, ◌+◌, ◌-◌, ◌%◌, ◌≤◌, ◌<◌, ◌≡◌, true, cond, List, [], ◌∷◌, ◌++◌, length, take, drop, get_or, eqb}
+use Rattle.std.specs.Prelude.{Option, Some, None, IfSome, ℕ, zero, suc, ◌+◌, ◌-◌, ◌%◌, ◌≤◌, ◌<◌, ◌≡◌, true, cond, List, [], ◌∷◌, ◌++◌, length, take, drop, get_or, eqb}
 use Rattle.pair.specs.Rank.{rank}
 use Rattle.pair.specs.Rising.{above, rising_from, last}
 use Rattle.block.specs.Block.{pairs_from, pairs, formed_from}
@@ -21,6 +21,10 @@ coming c o = pairs_from (rest c o.at o.end) o.term o.count ++ pairs_at c (around
 -- the old pairs from the one in hand on, none where there is none in hand
 unfoldable pub pending : List ℕ → OldCursor → List ℕ
 pending c o = cond (eqb o.rank 0) [] (o.rank ∷ coming c o)
+
+-- the pair in hand, if there is one
+unfoldable pub in_hand : OldCursor → Option ℕ
+in_hand o = cond (eqb o.rank 0) None (Some o.rank)
 
 -- before the first pair
 abbrev pub before_first : List ℕ → OldCursor

@@ -8,33 +8,31 @@ use Rattle.update.proofs.Merging.{merges_begun}
 use Rattle.update.proofs.Next.{remaining_read}
 use Rattle.update.proofs.due.fill.Goals as goal
 
-pub loop-place-init : goal.loop-place-init
-loop-place-init c =
+pub loop-next-init : goal.loop-next-init
+loop-next-init c =
     (rw c.start-place.ensures.bound (fills_start _ _ _ c.requires.words_value), merges_begun (facts _ c.requires.card_value) c.start-place.ensures)
 
-pub returns-then-place-eq0 : goal.returns-then-place-eq0
-returns-then-place-eq0 c =
+pub returns-in_default-put : goal.returns-in_default-put
+returns-in_default-put c =
     let rest = remaining_read _ _ c.requires.card_value c.type_inv.card c.type_inv.batch c.requires.batch_value in
+    let full = put_refused _ _ _ (sym c.in_default-put.is ∙ c.put.ensures.packing) in
     record {
-      due = rw c.of.ensures (fills_end c.loop-place.invariant.0 (facts _ c.requires.card_value) c.next-place.ensures c.if-place-eq0.true);
+      due = rw (c.of.ensures, c.put.ensures.words, put_none _ _ _ full) (fills_full c.loop-next.invariant.0 (facts _ c.requires.card_value) c.in-Some.ensures rest full);
       pairs = rest.proper;
     }
 
-pub returns-in_default : goal.returns-in_default
-returns-in_default c =
+pub loop-next-preserved : goal.loop-next-preserved
+loop-next-preserved c =
     let rest = remaining_read _ _ c.requires.card_value c.type_inv.card c.type_inv.batch c.requires.batch_value in
-    let full = put_refused _ _ _ (sym c.in_default.is ∙ c.put.ensures.packing) in
-    record {
-      due = rw (c.of-in_default.ensures, c.put.ensures.words, put_none _ _ _ full)
-          (fills_full c.loop-place.invariant.0 (facts _ c.requires.card_value) c.next-place.ensures c.if-place-eq0.false rest full);
-      pairs = rest.proper;
-    }
-
-pub loop-place-preserved : goal.loop-place-preserved
-loop-place-preserved c =
-    let rest = remaining_read _ _ c.requires.card_value c.type_inv.card c.type_inv.batch c.requires.batch_value in
-    let placed = put_placed _ _ _ _ (sym c.in-Some.is ∙ c.put.ensures.packing) in (
-      rw (c.put.ensures.words, placed.with)
-          (fills_turn c.loop-place.invariant.0 (facts _ c.requires.card_value) c.next-place.ensures c.if-place-eq0.false rest placed.room),
-      c.next-place.ensures.merges c.if-place-eq0.false,
+    let placed = put_placed _ _ _ _ (sym c.in-Some-put.is ∙ c.put.ensures.packing) in (
+      rw (c.put.ensures.words, placed.with) (fills_turn c.loop-next.invariant.0 (facts _ c.requires.card_value) c.in-Some.ensures rest placed.room),
+      c.in-Some.ensures.merges,
     )
+
+pub returns : goal.returns
+returns c =
+    let rest = remaining_read _ _ c.requires.card_value c.type_inv.card c.type_inv.batch c.requires.batch_value in
+    record {
+      due = rw c.of-2.ensures (fills_end c.loop-next.invariant.0 (facts _ c.requires.card_value) c.in_default.ensures);
+      pairs = rest.proper;
+    }

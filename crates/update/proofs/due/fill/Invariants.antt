@@ -5,8 +5,8 @@ use Rattle.update.specs.code.Merge.{Merges, left}
 use Rattle.update.proofs.Fills.{Fills}
 use Rattle.update.proofs.due.fill.Given as goal
 
-abbrev pub invariant-loop-place : goal.invariant-loop-place
-invariant-loop-place l = Fills l.card l.batch l.words l.packing l.place.rank × Merges l.card l.batch l.place
+abbrev pub invariant-loop-next : goal.invariant-loop-next
+invariant-loop-next l = Fills l.card l.batch l.words l.packing l.place.rank × Merges l.card l.batch l.place
 
-abbrev pub decreases-loop-place : goal.decreases-loop-place
-decreases-loop-place l = length (left l.card l.batch l.place.rank)
+abbrev pub decreases-loop-next : goal.decreases-loop-next
+decreases-loop-next l = length (left l.card l.batch l.place.rank)

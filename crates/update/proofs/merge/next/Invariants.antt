@@ -9,7 +9,7 @@ use Rattle.update.specs.code.Merge.{Merges, left}
 use Rattle.update.proofs.merge.next.Given as goal
 
 abbrev pub invariant-loop-rank : goal.invariant-loop-rank
-invariant-loop-rank l = Merges l.card l.batch (record { rank = l.rank; old = l.old; addition = l.addition; decisions = l.decisions }) × (left l.card l.batch l.initial.rank ≡ left l.card l.batch l.rank)
+invariant-loop-rank l = Merges l.card l.batch l.place × (left l.card l.batch l.initial.place.rank ≡ left l.card l.batch l.place.rank)
 
 abbrev pub decreases-loop-rank : goal.decreases-loop-rank
-decreases-loop-rank l = length (above l.rank (with_added (updates l.batch) (live l.card)))
+decreases-loop-rank l = length (above l.place.rank (with_added (updates l.batch) (live l.card)))
