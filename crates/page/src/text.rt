@@ -30,7 +30,7 @@ fn put_column(memory: &mut [u8], at: usize, n: u32)
     let mut rest = n;
     for place in (at..at + COLUMN_WIDTH).rev() {
         memory[place] = last_figure(rest);
-        rest = rest / 10;
+        rest /= 10;
         if rest == 0 {
             return;
         }
@@ -44,9 +44,9 @@ pub(crate) fn put_head(memory: &mut [u8], at: usize, term: u32, i: usize)
 {
     if i == 0 {
         put_column(memory, at, term);
-        return;
+    } else {
+        put_blanks(memory, at, COLUMN_WIDTH);
     }
-    put_blanks(memory, at, COLUMN_WIDTH);
 }
 
 // Writes the field of what a reader yields: a blank and the posting, or blanks alone.

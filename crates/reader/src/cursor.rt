@@ -39,8 +39,8 @@ pub(crate) fn open_at(card: &[u32], q: Question) -> Result<Cursor, Refusal>
     Ok(Cursor::before(walk))
 }
 
-// The cursor before the next run of a walk. Not called within a run, so it stays out of the steps there.
-#[inline(never)]
+// The cursor before the next run of a walk. It is called once a run, and kept out of the way of the steps within one.
+#[cold]
 fn run_at(card: &[u32], walk: Walk) -> Option<Cursor>
     ensures some { IfSome result (NextInHand card.now walk) }
     ensures none { IsNone result → ReadyWalk card.now walk → ahead card.now walk ≡ [] }
