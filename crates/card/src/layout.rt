@@ -41,10 +41,7 @@ pub struct Configuration {
 fn word(card: &[u32], at: usize) -> u32
     ensures { result ≡ word card.now at }
 {
-    if at < card.len() {
-        return card[at];
-    }
-    0
+    card.get(at).copied().unwrap_or(0)
 }
 
 // Its remainder by 65,536.
@@ -75,6 +72,7 @@ impl Configuration {
     }
 
     // Writes the configuration words, where there are words enough.
+    #[tactic(auto, unfolding(crate::specs::code::Configuration::put))]
     pub fn put(self, words: &mut [u32])
         ensures { words.new ≡ put words.old self }
     {
@@ -93,6 +91,7 @@ impl Configuration {
     }
 
     // The place j places on from a place, around the circle; 0 where there are no places.
+    #[tactic(auto, unfolding(crate::specs::code::Configuration::place_on))]
     pub fn place_on(self, start: u16, j: u16) -> u16
         ensures { result ≡ place_on self.places start j }
     {
@@ -119,6 +118,7 @@ impl Configuration {
 }
 
 // The words of a map entry in a format.
+#[tactic(auto, unfolding(crate::specs::Layout::width_of))]
 pub fn width_of(format: u32) -> u16
     ensures { result ≡ width_of format }
 {
@@ -134,6 +134,7 @@ pub fn entry_start(card: &[u32], i: u16) -> usize
 }
 
 // The rank of the map's pair for a place.
+#[tactic(auto, unfolding(crate::specs::Layout::first_pair, crate::specs::Layout::width_of))]
 pub fn first_pair(card: &[u32], i: u16) -> u64
     ensures { result ≡ first_pair card.now i }
 {
@@ -159,15 +160,8 @@ pub fn place_start(card: &[u32], i: u16) -> usize
 fn part(card: &[u32], start: usize, count: usize) -> &[u32]
     ensures { result.now ≡ take count (drop start card.now) }
 {
-    let len = card.len();
-    if len <= start {
-        return &card[0..0];
-    }
-    if len - start < count {
-        return &card[start..len];
-    }
-    let end = start + count;
-    &card[start..end]
+    let rest = &card[start.min(card.len())..];
+    &rest[..count.min(rest.len())]
 }
 
 // The words of a map entry.
@@ -179,6 +173,7 @@ pub fn entry(card: &[u32], i: u16) -> &[u32]
 }
 
 // The words of a place.
+#[tactic(auto, unfolding(crate::specs::Layout::place))]
 pub fn place(card: &[u32], i: u16) -> &[u32]
     ensures { result.now ≡ place card.now i }
 {

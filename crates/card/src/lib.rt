@@ -31,10 +31,8 @@ const PLACE_COUNT_MOST: u32 = 1024;
 fn in_limits(b: u32, n: u32) -> bool
     ensures { result ≡ in_limits b n }
 {
-    (BLOCK_SIZE_LEAST <= b)
-        & (b <= BLOCK_SIZE_MOST)
-        & (PLACE_COUNT_LEAST <= n)
-        & (n <= PLACE_COUNT_MOST)
+    (BLOCK_SIZE_LEAST..=BLOCK_SIZE_MOST).contains(&b)
+        && (PLACE_COUNT_LEAST..=PLACE_COUNT_MOST).contains(&n)
 }
 
 // The words of a card of a format.
@@ -47,6 +45,7 @@ fn card_length(format: u32, b: u32, n: u32) -> usize
 }
 
 // Writes the configuration of an empty card, and nothing else.
+#[tactic(auto, unfolding(pair::specs::Tests::first_of, crate::specs::Layout::format_number, crate::specs::Layout::formatted, crate::specs::code::Configuration::put))]
 pub fn format(card: &mut [u32], b: u32, n: u32) -> Result<(), Refusal>
     ensures number { number_of result ≡ format_number card.old b n }
     ensures written { card.new ≡ formatted card.old b n }
@@ -75,12 +74,14 @@ fn boundary_agrees(new_length: u32, term: u32, position: u32) -> bool
     ensures { result ≡ cond (eqb new_length 0) (eqb term 0 && eqb position 0) (ltb 0 term && ltb 0 position) }
 {
     if new_length == 0 {
-        return (term == 0) & (position == 0);
+        term == 0 && position == 0
+    } else {
+        pair::is_pair(term, position)
     }
-    pair::is_pair(term, position)
 }
 
 // Refuses a card whose length or configuration words are not in order.
+#[tactic(auto, unfolding(pair::specs::Tests::first_of, crate::specs::Sound::boundary_agrees))]
 pub fn check_configuration(card: &[u32]) -> Result<(), Refusal>
     ensures { number_of result ≡ first_of (configuration_conditions card.now) }
 {
