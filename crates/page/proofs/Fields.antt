@@ -6,28 +6,15 @@ use Rattle.std.specs.Prelude.{Option, Some, None, MatchOption}
 use mathlib.Core.Path.{◌≡◌, refl, sym, ap, ◌∙◌}
 use mathlib.Core.List.{List, [], ◌∷◌}
 use borrow.Author.Tests.{lt-ltb, le-ltb}
-use lib.ListN.{length, replicate, drop, set, length-drop}
+use lib.ListN.{length, drop, length-drop}
 use lib.Seq.{sets, length-sets}
 use lib.Dec.{ltb}
 use Rattle.pair.proofs.Tests.{ltb_agree}
 use Rattle.pair.proofs.Lists.{sets_behind}
-use Rattle.page.specs.Figures.{blank, column}
 use Rattle.page.specs.Page.{joined, field}
 use Rattle.page.specs.code.Putting.{field_of, fields_from, FieldsPut}
 use Rattle.page.proofs.Joining.{joined_length}
 use Rattle.page.proofs.ReadBack.{field_length}
-
--- a field by what is yielded
-pub posting_put :
-    (l : List ℕ) (at : ℕ) {after : List ℕ} {p : ℕ} {y : Option ℕ} → y ≡ Some p → after ≡ sets (set l at blank) (at + 1) (column p) →
-    after ≡ sets l at (field_of y)
-unfolding field_of
-posting_put l at f e = rw f (rw (add-one at) at e)
-
-pub end_put :
-    (l : List ℕ) (at : ℕ) {after : List ℕ} {y : Option ℕ} → y ≡ None → after ≡ sets l at (replicate 11 blank) → after ≡ sets l at (field_of y)
-unfolding field_of
-end_put l at f e = rw f e
 
 -- a reader yields the first of what is left, or the end where nothing is
 abbrev First : List ℕ → Option ℕ → List ℕ → Type 0

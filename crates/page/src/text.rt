@@ -14,6 +14,7 @@ pub(crate) const COLUMN_WIDTH: usize = 10;
 pub(crate) const FIELD_BYTES: usize = 11;
 
 // Writes so many blanks.
+#[tactic(auto, using(crate::proofs::Columns::blanks_put))]
 fn put_blanks(memory: &mut [u8], at: usize, count: usize)
     requires { at + count ≤ length memory.old }
     ensures { memory.new ≡ sets memory.old at (replicate count blank) }
@@ -22,6 +23,7 @@ fn put_blanks(memory: &mut [u8], at: usize, count: usize)
 }
 
 // Writes a number right-aligned in ten columns: ten blanks, and over them its figures from the last on.
+#[tactic(auto, using(crate::proofs::Columns::figuring_start, crate::proofs::Columns::figuring_turn))]
 fn put_column(memory: &mut [u8], at: usize, n: u32)
     requires { at + column_width ≤ length memory.old }
     ensures { memory.new ≡ sets memory.old at (column n) }
@@ -50,6 +52,7 @@ pub(crate) fn put_head(memory: &mut [u8], at: usize, term: u32, i: usize)
 }
 
 // Writes the field of what a reader yields: a blank and the posting, or blanks alone.
+#[tactic(auto, unfolding(crate::specs::code::Putting::field_of))]
 pub(crate) fn put_field(memory: &mut [u8], at: usize, posting: Option<u32>)
     requires { at + field_bytes ≤ length memory.old }
     ensures { memory.new ≡ sets memory.old at (field_of posting) }

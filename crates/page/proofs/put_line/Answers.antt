@@ -1,9 +1,0 @@
--- `page::put_line` meets its contract: head, fields and line feed make the line.
-use native.Mathlib.Omega.{arith}
-use Rattle.page.proofs.Lines.{line_put}
-use Rattle.page.proofs.put_line.Goals as goal
-
-pub returns : goal.returns
-returns c =
-    let a = c.args in
-    line_put a.memory.now a.i (omega arith) c.put_head.ensures c.put_fields.ensures
