@@ -2,12 +2,11 @@
 use Prim.Native.Nat.{ℕ, zero, suc, ◌+◌, ◌-◌, ◌/◌, ◌%◌, ◌^◌, ◌≤◌, ◌<◌}
 use native.Mathlib.Omega.{arith}
 use mathlib.Core.Path.{◌≡◌, refl, sym, ap, ◌∙◌}
-use mathlib.Core.List.{List, [], ◌∷◌, ◌++◌, append_assoc, append-nil}
+use mathlib.Core.List.{List, [], ◌∷◌, ◌++◌, append_assoc}
 use lib.ListN.{length, take, drop, replicate, set, length-drop, length-replicate, replicate-append-replicate}
 use Rattle.std.proofs.lemmas.List.{length-take-le}
 use lib.Seq.{sets, sets-eq}
 use borrow.Rule.Slice.PartMut.{mid_of, put_mid, Post-is}
-use Rattle.pair.specs.Rank.{word_limit}
 use Rattle.pair.proofs.Lists.{sets_append, sets_behind, set_sets, sets_over}
 use Rattle.figures.specs.Figures.{figure, decimal}
 use Rattle.figures.specs.code.Reading.{leading}
@@ -39,11 +38,6 @@ pub record Figuring (l : List ℕ) (at n : ℕ) (now : List ℕ) (place rest : �
   pub some : at < place
   pub room : rest < 10 ^ (place - at)
   pub same : now ≡ sets l place done
-
-pub figuring_start : (l : List ℕ) (at n : ℕ) → n < word_limit → Figuring l at n l (at + 10) n
-figuring_start l at n h =
-    let ten : at + 10 - at ≡ 10 = omega arith in
-    record { done = []; all = sym (append-nil (decimal n)); count = omega arith; some = omega arith; room = rw ten (omega arith); same = refl }
 
 -- what is left behind a figure has the other columns
 less_room : (k r : ℕ) → r < 10 ^ k → 0 < k → r / 10 < 10 ^ (k - 1)

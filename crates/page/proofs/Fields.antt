@@ -3,7 +3,7 @@ use Prim.Native.Nat.{ℕ, zero, suc, ◌+◌, ◌*◌, zero-le}
 use native.Mathlib.Numerals.{add-one}
 use native.Mathlib.Omega.{arith}
 use Rattle.std.specs.Prelude.{Option, Some, None, MatchOption}
-use mathlib.Core.Path.{◌≡◌, refl, sym, ap, ◌∙◌}
+use mathlib.Core.Path.{◌≡◌, sym, ap, ◌∙◌}
 use mathlib.Core.List.{List, [], ◌∷◌}
 use borrow.Author.Tests.{lt-ltb, le-ltb}
 use lib.ListN.{length, drop, length-drop}
@@ -41,14 +41,6 @@ field_of_first (q ∷ ps) (suc n) y f e =
 pub record Fielding (left l : List ℕ) (at : ℕ) (then now : List ℕ) (j : ℕ) : Type 0 where
   pub kept : length now ≡ length l
   pub done : FieldsPut left l at j then now
-
-pub fielding_start : (left l : List ℕ) (at : ℕ) → Fielding left l at left l 0
-unfolding joined
-fielding_start left l at =
-    record {
-      kept = refl;
-      done = record { put = λ ps n w e. refl; rest = λ ps n e. let f : n + 0 ≡ n = omega arith in rw f e };
-    }
 
 pub fielding_turn :
     {left l then now after : List ℕ} {at j : ℕ} (y : Option ℕ) {rest : List ℕ} → Fielding left l at then now j → First then y rest →

@@ -36,10 +36,6 @@ pub record Lining (t : ℕ) (ps l then now : List ℕ) (i : ℕ) : Type 0 where
   pub put : Words ps → now ≡ sets l 0 (joined (line t ps) i)
   pub rest : then ≡ drop (5 * i) ps
 
-pub lining_start : (t : ℕ) (ps l : List ℕ) → Lining t ps l ps l 0
-unfolding joined
-lining_start t ps l = record { kept = refl; put = λ w. refl; rest = refl }
-
 pub lining_turn :
     {t i : ℕ} {ps l then now rest after : List ℕ} → t < word_limit → Lining t ps l then now i → LinePut t i then now rest after →
     length after ≡ length now → Lining t ps l rest after (i + 1)

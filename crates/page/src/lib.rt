@@ -26,7 +26,7 @@ const LINE_BYTES: usize = 66;
 const LINE_FEED: usize = LINE_BYTES - 1;
 
 // Writes the five fields of a line.
-#[tactic(auto, using(crate::proofs::Fields::fielding_start))]
+#[tactic(auto, unfolding(crate::specs::Page::joined))]
 fn put_fields(reader: &mut PostingReader<'_>, memory: &mut [u8], at: usize)
     requires { at + line_fields * field_bytes ≤ length memory.old }
     ensures { FieldsPut (left_in reader.old) memory.old at line_fields (left_in reader.new) memory.new }
@@ -49,7 +49,7 @@ fn put_line(reader: &mut PostingReader<'_>, term: u32, i: usize, memory: &mut [u
 }
 
 // Writes so many lines.
-#[tactic(auto, using(crate::proofs::Lines::lining_start, crate::proofs::Lines::lining_turn))]
+#[tactic(auto, using(crate::proofs::Lines::lining_turn), unfolding(crate::specs::Page::joined))]
 fn put_lines(mut reader: PostingReader<'_>, term: u32, lines: usize, memory: &mut [u8])
     requires { line_bytes * lines ≤ length memory.old }
     ensures { LinesPut term lines (left_in reader.entry) memory.old memory.new }

@@ -23,7 +23,7 @@ fn put_blanks(memory: &mut [u8], at: usize, count: usize)
 }
 
 // Writes a number right-aligned in ten columns: ten blanks, and over them its figures from the last on.
-#[tactic(auto, using(crate::proofs::Columns::figuring_start, crate::proofs::Columns::figuring_turn))]
+#[tactic(auto, using(crate::proofs::Columns::figuring_turn))]
 fn put_column(memory: &mut [u8], at: usize, n: u32)
     requires { at + column_width ≤ length memory.old }
     ensures { memory.new ≡ sets memory.old at (column n) }

@@ -1,5 +1,5 @@
 -- A reading: what a reader yields goes to the answer words, one posting after another.
-use Prim.Native.Nat.{ℕ, zero, suc, ◌+◌, ◌≤◌, ◌<◌, zero-le}
+use Prim.Native.Nat.{ℕ, zero, suc, ◌+◌, ◌≤◌, ◌<◌}
 use native.Mathlib.Numerals.{add-one}
 use native.Mathlib.Omega.{arith}
 use Rattle.std.specs.Prelude.{Option, Some, None, slice_get}
@@ -63,9 +63,6 @@ pub record Taking (all left l now : List ℕ) (i : ℕ) : Type 0 where
 
 pub taking_length : {all left l now : List ℕ} {i : ℕ} → Taking all left l now i → length now ≡ length l
 taking_length {all} {left} {l} {now} {i} g = ap length g.same ∙ length-sets l 0 (take i all)
-
-pub taking_start : {all left : List ℕ} (l : List ℕ) → left ≡ all → Taking all left l l 0
-taking_start l e = record { some = zero-le; rest = e; same = refl }
 
 pub taking_turn : {all left then l now : List ℕ} {i p : ℕ} → Taking all left l now i → left ≡ p ∷ then → Taking all then l (set now i p) (i + 1)
 taking_turn {all} {left} {then} {l} {now} {i} {p} g e =

@@ -1,10 +1,7 @@
 -- `reader::read` meets its contract.
 use native.Mathlib.Omega.{arith}
-use Rattle.reader.proofs.Readings.{taking_start, taking_turn, taking_full, taking_end, refused_reading}
+use Rattle.reader.proofs.Readings.{taking_turn, taking_full, taking_end, refused_reading}
 use Rattle.reader.proofs.read.Goals as goal
-
-pub loop-count-init : goal.loop-count-init
-loop-count-init c = taking_start _ c.in_ok-cursor.ensures.cursor.rest
 
 pub returns-in-None : goal.returns-in-None
 returns-in-None c = taking_end _ _ _ _ c.loop-count.invariant c.in-None.ensures.steps.first.0 (omega (arith, c.loop-count.auto.count-end)) c.in_ok-cursor.ensures.number
