@@ -284,31 +284,36 @@ spent_walk_ready c w e = record { new = spent_ready c w.new (omega arith); old =
 pub spent_walk_ahead : (c : List ℕ) (w : Walk) → blocks_of w ≡ 0 → ahead c w ≡ []
 spent_walk_ahead c w e = rw (spent_ahead c w.term w.to w.new (omega arith), spent_ahead c w.term w.to w.old (omega arith))
 
--- n positions of a walk are left behind, and the others are ahead of the walk now
-pub record Taking (c : List ℕ) (w now : Walk) (n : ℕ) : Type 0 where
-  pub ready : ReadyWalk c now
+-- n positions of the stretch s are left behind, and the others are those of the stretch now
+pub record Taking (c : List ℕ) (t z : ℕ) (s now : Stretch) (n : ℕ) : Type 0 where
+  pub ready : Ready c now
   pub done : List ℕ
-  pub all : ahead c w ≡ done ++ ahead c now
+  pub all : ahead_of c t z s ≡ done ++ ahead_of c t z now
   pub count : n ≡ length done
 
-unfoldable pub taking_start : {c : List ℕ} {w : Walk} → ReadyWalk c w → Taking c w w 0
+unfoldable pub taking_start : {c : List ℕ} {t z : ℕ} {s : Stretch} → Ready c s → Taking c t z s s 0
 taking_start r = record { ready = r; done = []; all = refl; count = refl }
 
-module _ {c : List ℕ} {w now rest : Walk} {n : ℕ} {x : Part} (g : Taking c w now n) (h : NextRun c now x rest) where
-  pub all_run : ahead c w ≡ (g.done ++ take x.len (drop x.start c)) ++ ahead c rest
-  all_run =
-      g.all ∙ ap (λ l. g.done ++ l) (h.rest g.ready) ∙ sym (append_assoc g.done (take x.len (drop x.start c)) (ahead c rest))
+module _ {c : List ℕ} {t z : ℕ} {s now rest : Stretch} {p n : ℕ} {x : Part} (g : Taking c t z s now n) (h : FirstPlace c now p rest) (y : PlacePart c p t rest.after z x) where
+  first_part : ahead_of c t z now ≡ take x.len (drop x.start c) ++ ahead_of c t z rest
+  first_part =
+      let live : formed (place c p) ≡ true = (rw (h.places g.ready) at g.ready.live).0 in
+      rw (← h.after, h.places g.ready, y.positions live) (postings_cons c (is_wanted t rest.after z) p (places_of c rest))
 
-  pub count_run : length (g.done ++ take x.len (drop x.start c)) ≡ n + x.len
-  count_run = length-append g.done (take x.len (drop x.start c)) ∙ rw (← g.count, length_part c x.start x.len h.inside)
+  pub all_part : ahead_of c t z s ≡ (g.done ++ take x.len (drop x.start c)) ++ ahead_of c t z rest
+  all_part = g.all ∙ ap (λ l. g.done ++ l) first_part ∙ sym (append_assoc g.done (take x.len (drop x.start c)) (ahead_of c t z rest))
 
-  -- a run more
-  unfoldable pub taking_turn : Taking c w rest (n + x.len)
-  taking_turn = record { ready = h.ready g.ready; done = g.done ++ take x.len (drop x.start c); all = all_run; count = sym count_run }
+  pub count_part : length (g.done ++ take x.len (drop x.start c)) ≡ n + x.len
+  count_part = length-append g.done (take x.len (drop x.start c)) ∙ rw (← g.count, length_part c x.start x.len y.inside)
 
-  pub taking_most : n + x.len ≤ length (ahead c w)
+  -- a block more
+  unfoldable pub taking_turn : Taking c t z s rest (n + x.len)
+  taking_turn =
+      record { ready = h.ready g.ready; done = g.done ++ take x.len (drop x.start c); all = all_part; count = sym count_part }
+
+  pub taking_most : n + x.len ≤ length (ahead_of c t z s)
   taking_most =
-      omega (arith, count_run, ap length all_run ∙ length-append (g.done ++ take x.len (drop x.start c)) (ahead c rest))
+      omega (arith, count_part, ap length all_part ∙ length-append (g.done ++ take x.len (drop x.start c)) (ahead_of c t z rest))
 
-pub taking_end : {c : List ℕ} {w now : Walk} {n : ℕ} → (g : Taking c w now n) → (ReadyWalk c now → ahead c now ≡ []) → ahead c w ≡ g.done
-taking_end {c} {w} {now} {n} g e = g.all ∙ rw (e g.ready) (append-nil g.done)
+pub taking_end : {c : List ℕ} {t z : ℕ} {s now : Stretch} {n : ℕ} → (g : Taking c t z s now n) → now.blocks ≡ 0 → ahead_of c t z s ≡ g.done
+taking_end {c} {t} {z} {s} {now} {n} g e = g.all ∙ rw (spent_ahead c t z now e) (append-nil g.done)

@@ -8,7 +8,7 @@ use card::layout::Configuration;
 use wanted::Part;
 
 // The wanted positions of the block at a place, as a part of the card.
-fn place_part(card: &[u32], place: u16, term: u32, after: u32, to: u32) -> Part
+pub fn place_part(card: &[u32], place: u16, term: u32, after: u32, to: u32) -> Part
     ensures { PlacePart card.now place term after to result }
 {
     let part = wanted::block_part(layout::place(card, place), term, after, to);
@@ -37,7 +37,7 @@ impl Stretch {
     };
 
     // Its first place, which it leaves behind.
-    fn next_place(&mut self, card: &[u32]) -> Option<u16>
+    pub fn next_place(&mut self, card: &[u32]) -> Option<u16>
         ensures some { IfSome result (λ place. FirstPlace card.now self.old place self.new) }
         ensures none { IsNone result → self.old.blocks ≡ 0 }
         ensures spent { IsNone result → self.new.blocks ≡ 0 }
@@ -61,6 +61,22 @@ impl Stretch {
             }
         }
         None
+    }
+
+    // How many wanted positions it has.
+    fn count_ahead(self, card: &[u32], term: u32, to: u32) -> usize
+        requires ready { Ready card.now self }
+        requires few { length (ahead_of card.now term to self) < word_limit }
+        ensures { result ≡ length (ahead_of card.now term to self) }
+    {
+        let mut rest = self;
+        let mut count: usize = 0;
+        while let Some(place) = rest.next_place(card) {
+            let part = place_part(card, place, term, rest.after, to);
+            let len = part.len;
+            count += len;
+        }
+        count
     }
 }
 
@@ -100,13 +116,9 @@ impl Walk {
         requires few { length (ahead card.now self) < word_limit }
         ensures { result ≡ length (ahead card.now self) }
     {
-        let mut walk = self;
-        let mut count: usize = 0;
-        while let Some(part) = walk.next_run(card) {
-            let len = part.len;
-            count += len;
-        }
-        count
+        let new = self.new.count_ahead(card, self.term, self.to);
+        let old = self.old.count_ahead(card, self.term, self.to);
+        new + old
     }
 }
 

@@ -7,12 +7,12 @@ ghost use Rattle.std.proofs.lemmas.List.Edits.{sets};
 ghost use Rattle.refusal.specs.Refusal.{number_of};
 ghost use Rattle.pair.specs.Bounds.{lowest, highest};
 ghost use Rattle.found.specs.Found.{question_number, lookup};
-ghost use Rattle.found.specs.code.Walk.{ahead, ReadyWalk};
+ghost use Rattle.found.specs.code.Walk.{ahead_of, ahead, Ready, ReadyWalk};
 ghost use Rattle.found.specs.Views.{run, run_start, Viewed};
 ghost use Rattle.lookup.specs.Answer.{Answered, part_of};
 
 use found::Question;
-use found::walk::{Walk, WalkCount};
+use found::walk::{Stretch, Walk, WalkCount, place_part};
 use pair::Pair;
 use refusal::Refusal;
 use wanted::Part;
@@ -24,19 +24,38 @@ pub struct Found {
     pub blocks: u32,
 }
 
+// Moves the wanted positions of a stretch to the answer words from one on; the word behind them.
+fn copy_stretch(
+    card: &[u32],
+    term: u32,
+    to: u32,
+    s: Stretch,
+    answer: &mut [u32],
+    at: usize,
+) -> usize
+    requires ready { Ready card.now s }
+    requires answer_in_bounds { at + length (ahead_of card.now term to s) ≤ length answer.old }
+    ensures word { result ≡ at + length (ahead_of card.now term to s) }
+    ensures answer { answer.new ≡ sets answer.old at (ahead_of card.now term to s) }
+{
+    let mut rest = s;
+    let mut next = at;
+    while let Some(place) = rest.next_place(card) {
+        let Part { start, len } = place_part(card, place, term, rest.after, to);
+        answer[next..next + len].copy_from_slice(&card[start..start + len]);
+        next += len;
+    }
+    next
+}
+
 // Moves the wanted positions that are ahead to the first answer words.
 fn copy_ahead(card: &[u32], walk: Walk, answer: &mut [u32])
     requires ready { ReadyWalk card.now walk }
     requires answer_in_bounds { length (ahead card.now walk) ≤ length answer.old }
     ensures { answer.new ≡ sets answer.old 0 (ahead card.now walk) }
 {
-    let mut left = walk;
-    let mut next: usize = 0;
-    while let Some(part) = left.next_run(card) {
-        let Part { start, len } = part;
-        answer[next..next + len].copy_from_slice(&card[start..start + len]);
-        next += len;
-    }
+    let moved = copy_stretch(card, walk.term, walk.to, walk.new, answer, 0);
+    copy_stretch(card, walk.term, walk.to, walk.old, answer, moved);
 }
 
 // Writes the live positions that a question asks for into the first answer words.
