@@ -2,6 +2,7 @@
 use Prim.Native.Nat.{◌+◌}
 use native.Mathlib.Omega.{arith}
 use mathlib.Core.Path.{ap}
+use lib.ListN.{length-set}
 use Rattle.figures.proofs.Figures.{decimal_few}
 use Rattle.scores.proofs.Printing.{line_length, line_put}
 use Rattle.scores.proofs.put_line.Goals as goal
@@ -21,7 +22,7 @@ returns c =
     record {
       value = (
         omega (arith, count, line_length c.args.letter c.args.n),
-        line_put c.args.line.now c.args.letter c.args.n _ c.put_number-arg-1.given.0.1 (omega arith) c.put_number.ensures (ap (λ k. 2 + k) count),
+        line_put c.args.line.now c.args.letter c.args.n _ (simp length-set (omega arith)) (omega arith) c.put_number.ensures (ap (λ k. 2 + k) count),
       );
       upper_bound = omega (arith, count, decimal_few c.args.n (omega arith));
     }
