@@ -9,7 +9,8 @@
 #
 # A clause is `requires {..}` or `ensures {..}`, or has a name before its brace. Of attributes it
 # knows those for C, derives of the library's traits, which stand with their item, and `tactic`,
-# which says how a proof is sought and nothing of what is proved, and is dropped.
+# `inline` and `cold`, which say how a proof is sought and how code is laid out and nothing of what
+# is proved, and are dropped.
 #
 # Quotes stand in three forms and in no other: extern "C", a byte as b'0', a lifetime as 'a. So no
 # text can hold what looks like a comment, a brace or another text.
@@ -19,6 +20,7 @@ BEGIN {
     quoted = "extern \"C\"|" byte "|'[a-z_]+"
     odd = "[\"'`\\\\]"
     tactic = "#!?\\[tactic\\(([A-Za-z0-9_:, -]|\\(|\\))*\\)\\]"
+    hint = "#\\[(inline(\\(never\\))?|cold)\\]"
     derives = "(Clone|Copy|Drop|Debug|Default|PartialEq|Eq|PartialOrd|Ord|Hash)"
     stated_trait = "(From|TryFrom|Iterator)"
     known_attribute = "^#\\[(unsafe\\(no_mangle\\)|repr\\(C\\)|derive\\(" derives "(, " derives ")*\\))\\]"
@@ -117,6 +119,7 @@ function name_of(text,    name) {
 function read_implementation(text,    head) {
     head = substr(text, 1, index(text, "{") - 1)
     gsub(/[ \001]+$/, "", head)
+    gsub(hint " ", "", text)
     if (text ~ /#|--|\{-/) fault(file ": an attribute or a comment inside: " head)
     keep(head, text)
     functions++
@@ -206,7 +209,7 @@ function read_file(    uses, ghost_uses, pub) {
     inside[0] = attributes = kept = ""
     strip_comments()
     while (sub(/^[ \001]+/, "", rest) || rest != "") {
-        if (match(rest, "^" tactic)) { take(RLENGTH); continue }
+        if (match(rest, "^(" tactic "|" hint ")")) { take(RLENGTH); continue }
         if (match(rest, known_attribute)) { attributes = attributes take(RLENGTH) " "; continue }
         if (rest == "") break
         if (rest ~ pub "(const |unsafe |extern \"C\" )*fn ") read_function()
@@ -215,7 +218,7 @@ function read_file(    uses, ghost_uses, pub) {
         else if (rest ~ pub "(const|static|type) ") read_private(statement(0))
         else if (rest ~ /^ghost use /) ghost_uses = ghost_uses inside[depth_of] statement(0)
         else if (rest ~ pub "(use [^;]*|mod [a-z0-9_]+);") uses = uses inside[depth_of] statement(0)
-        else if (rest ~ "^impl(<[^<>]*>)? " stated_trait "[< ][^{};]* for ") read_implementation(statement(1))
+        else if (rest ~ "^impl(<[^<>]*>)? " stated_trait "(<[^{};]*>)? for ") read_implementation(statement(1))
         else if (match(rest, pub "(mod|impl)[ <][^{};]*\\{")) open_block(take(RLENGTH))
         else if (depth_of && rest ~ /^\}/) { take(1); depth_of-- }
         else { fault(file ": cannot read: " substr(rest, 1, 80)); return }

@@ -58,6 +58,14 @@ impl Parser<'_> {
                 self.tactic()?;
             } else if self.take_word("derive")? {
                 self.derived()?;
+            } else if self.take_word("inline")? {
+                if self.take("(")? {
+                    if !self.take_word("never")? {
+                        return self.unknown("\"never\"");
+                    }
+                    self.expect(")")?;
+                }
+            } else if self.take_word("cold")? {
             } else if self.take_word("unsafe")? {
                 self.expect("(")?;
                 if !self.take_word("no_mangle")? {

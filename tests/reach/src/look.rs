@@ -8,12 +8,13 @@ use crate::tree::{Function, Mention, Mentions, Path, Trait};
 
 // Methods of built-in types and of the library's. None makes an array; those over an iterator call
 // what implements one.
-const BUILT_IN_METHODS: [&str; 40] = [
+const BUILT_IN_METHODS: [&str; 41] = [
     "all",
     "any",
     "checked_add",
     "checked_mul",
     "checked_sub",
+    "contains",
     "copied",
     "copy_from_slice",
     "count",
