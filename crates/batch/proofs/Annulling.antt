@@ -14,7 +14,7 @@ use borrow.Author.Tests.{ltb-true, ltb-false, lt-ltb, le-ltb, leb-true, leb-fals
 use Rattle.pair.specs.Rank.{word_limit, rank}
 use Rattle.pair.proofs.Tests.{and_left, and_right, or_left, or_right, or_cases}
 use Rattle.pair.proofs.Search.{Halved, halved_up, halved_down}
-use Rattle.batch.specs.Batch.{Update, updates, falls}
+use Rattle.batch.specs.Batch.{Update, falls}
 use Rattle.batch.specs.code.Rounds.{starts, reaches_from, halving, stands, begun, reached, annuls_later}
 use Rattle.std.specs.List.{list_any}
 use Rattle.batch.specs.declared.Passed.{Passed}

@@ -1,16 +1,16 @@
 -- The rounds cut to as many as there are places that they reach to: what is found among them is what is found among the records.
-use Prim.Native.Nat.{ℕ, zero, suc, min, ◌+◌, ◌-◌, ◌/◌, ◌≤◌, ◌<◌}
+use Prim.Native.Nat.{ℕ, min, ◌-◌, ◌/◌, ◌≤◌}
 use native.Mathlib.Omega.{arith}
-use mathlib.Core.Path.{◌≡◌, refl, sym, ap, ap₂, ◌∙◌}
-use mathlib.Core.Bool.{Bool, true, false, cond, ◌&&◌}
+use mathlib.Core.Path.{◌≡◌, refl, ap, ap₂, ◌∙◌}
+use mathlib.Core.Bool.{Bool, true, false, cond}
 use mathlib.Core.List.{List}
 use lib.ListN.{length, take, get_or, length-take}
 use lib.Dec.{ltb, leb}
-use borrow.Author.Tests.{leb-true, leb-false}
+use borrow.Author.Tests.{leb-false}
 use Rattle.std.proofs.Common.{get_or-take}
 use Rattle.std.proofs.lemmas.List.{take-take}
 use Rattle.batch.specs.declared.Passed.{Passed}
-use Rattle.batch.specs.Batch.{Update, updates, any_update}
+use Rattle.batch.specs.Batch.{Update, updates}
 use Rattle.batch.specs.code.Records.{records_of, updates_of}
 use Rattle.batch.specs.code.Rounds.{starts, begun, reached, annuls_later}
 use Rattle.batch.specs.code.Search.{annulled}

@@ -16,4 +16,5 @@ pub mod Numbering
 pub mod Records
 pub mod Search
 pub mod Serving
+pub mod Sorting
 pub mod Behind

@@ -1,5 +1,5 @@
 -- The walks over the records of a batch: the next addition, and whether a pair is withdrawn.
-use Prim.Native.Nat.{ℕ, zero, suc, max, ◌+◌, ◌/◌, ◌≤◌, ◌<◌}
+use Prim.Native.Nat.{ℕ, zero, suc, max, ◌+◌, ◌≤◌, ◌<◌}
 use native.Mathlib.Nat.{add-zero}
 use native.Mathlib.Omega.{arith}
 use mathlib.Core.Path.{◌≡◌, refl, sym, ◌∙◌}
@@ -7,20 +7,18 @@ use mathlib.Core.Bool.{Bool, true, false, cond, ◌&&◌, false≢true}
 use mathlib.Core.List.{List, [], ◌∷◌}
 use lib.ListN.{length, drop}
 use lib.Dec.{ltb, eqb}
-use borrow.Author.Tests.{ltb-true, ltb-false, le-ltb, lt-ltb, eq-eqb, eqb-true}
-use Rattle.std.specs.Prelude.{Option, Some, None}
+use borrow.Author.Tests.{ltb-true, ltb-false, le-ltb, lt-ltb, eqb-true}
+use Rattle.std.specs.Prelude.{Some, None}
 use Rattle.std.specs.Option.{unwrap_or}
 use Rattle.pair.specs.Rank.{rank}
 use Rattle.pair.proofs.Tests.{and_left, and_right, or_left, or_right, or_both, and_both, not_holds}
 use Rattle.batch.specs.declared.Cursor.{Cursor}
 use Rattle.batch.specs.declared.Passed.{Passed}
 use Rattle.batch.specs.Batch.{Update, updates, falls}
-use Rattle.batch.specs.declared.reading.Kind.{Kind}
 use Rattle.batch.specs.declared.reading.Kind.TheVariants.{Adds, Removes, Annuls}
 use Rattle.batch.specs.code.Records.{kind_of}
-use Rattle.batch.specs.code.Search.{record_at, update_of, lesser, least_added, adds_above, first_added, before_added, next_addition, starting_to, rounds_with, rounds_of, removals_with, removals_of, reach_with, reach_of, added_with, added_of, arrived_with, arrived_of, latest_with, latest_of, behind, further, passed_to, passing}
+use Rattle.batch.specs.code.Search.{lesser, least_added, adds_above, first_added, before_added, next_addition, starting_to, rounds_with, rounds_of, removals_with, removals_of, reach_with, reach_of, added_with, added_of, arrived_with, arrived_of, latest_with, latest_of, behind, further, passed_to, passing}
 use Rattle.batch.proofs.Merge.{least_added_first}
-use Rattle.batch.proofs.Records.{update_at, update_end}
 
 -- the search for an addition from a record on finds what the search from the record n on finds
 pub seeks_turn :
@@ -87,16 +85,6 @@ least_added_before (u ∷ us) k j h = go (eqb u.kind 1 && ltb k here) refl (leas
         ≡ least_added j (drop (cond t 0 (suc (before_added k us))) (u ∷ us))
     go true e ih = refl
     go false e ih = rw (low e) ih
-
--- the additions of a pair, with one more
-pub arrived_more : (u : Update) (k n : ℕ) (t : Bool) → u.kind ≡ 1 → (eqb (rank u.term u.from) k && ltb u.arrival n) ≡ t → arrived_with u k n ≡ cond t n u.arrival
-unfolding arrived_with
-arrived_more u k n t h e = rw (eq-eqb u.kind 1 h) (go (eqb (rank u.term u.from) k) (ltb u.arrival n) refl e)
-  where
-    go : (s l : Bool) → ltb u.arrival n ≡ l → (s && l) ≡ t → cond s (max n u.arrival) u.arrival ≡ cond t n u.arrival
-    go true true f g = rw (← g) (omega (arith, ltb-true u.arrival n f))
-    go true false f g = rw (← g) (omega (arith, ltb-false u.arrival n f))
-    go false l f g = rw (← g)
 
 -- the numbers of the kinds
 pub number_adds : (n : ℕ) → kind_of n ≡ Some Adds → n ≡ 1

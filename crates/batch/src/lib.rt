@@ -66,15 +66,7 @@ fn ill_numbered(records: &[RecordWords]) -> bool
 fn falls(records: &[RecordWords]) -> bool
     ensures { result ≡ falls 0 (updates_of records.now) }
 {
-    let mut before = 0;
-    for words in records {
-        let rank = Record::of(words).first_rank();
-        if rank < before {
-            return true;
-        }
-        before = rank;
-    }
-    false
+    !records.is_sorted_by_key(|words| Record::of(words).first_rank())
 }
 
 // Checks that a batch is in order.

@@ -1,17 +1,14 @@
 -- `batch::decide` meets its contract.
 use Prim.Native.Nat.{ℕ, min, ◌/◌}
-use native.Mathlib.Omega.{arith}
-use mathlib.Core.Path.{◌≡◌, refl, sym, ap, ◌∙◌}
+use mathlib.Core.Path.{◌≡◌, refl, ap, ◌∙◌}
 use mathlib.Core.Bool.{Bool, true, false}
 use mathlib.Core.List.{List}
 use lib.ListN.{length}
 use lib.Dec.{eqb}
 use Rattle.pair.specs.Rank.{position}
 use Rattle.batch.specs.declared.Cursor.{Cursor}
-use Rattle.batch.specs.declared.Decision.{Decision}
 use Rattle.batch.specs.declared.Removal.{Removal}
 use Rattle.batch.specs.Batch.{Update, updates}
-use Rattle.batch.specs.code.Records.{updates_of}
 use Rattle.batch.specs.code.Rounds.{starts, begun}
 use Rattle.batch.specs.code.Search.{decided, passing, removal, annulled}
 use Rattle.batch.proofs.Cutting.{cut_begun, cut_annulled}

@@ -1,8 +1,7 @@
 -- `batch::fill_arrivals` meets its contract. The invariant of its loop: the first n are written.
 use mathlib.Core.Path.{◌≡◌}
-use lib.ListN.{length, take}
+use lib.ListN.{take}
 use lib.Seq.{sets}
-use Prim.Native.Nat.{◌≤◌}
 use Rattle.batch.specs.Batch.{arrivals}
 use Rattle.batch.specs.code.Records.{updates_of}
 use Rattle.batch.proofs.fill_arrivals.Given as goal

@@ -1,5 +1,5 @@
 -- `batch::next_addition` meets its contract. The invariant of its loop: the search from the record in hand on finds what is asked for.
-use Prim.Native.Nat.{max, ◌/◌}
+use Prim.Native.Nat.{max}
 use native.Mathlib.Omega.{arith}
 use lib.ListN.{length}
 use mathlib.Core.Path.{◌≡◌, sym, ◌∙◌}

@@ -1,5 +1,5 @@
 -- `batch::next_addition` meets its contract. The invariant of its loop: the search from the record in hand on finds what is asked for.
-use Prim.Native.Nat.{max, ◌/◌, ◌≤◌}
+use Prim.Native.Nat.{max, ◌≤◌}
 use mathlib.Core.Path.{◌≡◌}
 use lib.ListN.{length}
 use Rattle.batch.specs.code.Search.{next_addition}
