@@ -184,3 +184,8 @@ leaving_end {bits} {size} {left} {i} {numbers} l h =
       few = omega (arith, l.few, l.within);
       whole = ap repeats (sym (take_all i numbers h)) ∙ l.parted.same;
     }
+
+-- where none is left over, none stands twice
+pub none_left : {numbers rest : List ℕ} {left : ℕ} → Left numbers rest left → left ≡ 0 → repeats numbers ≡ false
+unfolding repeats
+none_left {rest = rest} l z = l.whole ∙ ap (λ n. repeats (take n rest)) z

@@ -1,7 +1,7 @@
--- `repeat::fill_slots` meets its contract. The invariant: of the numbers read some are in their slots, and the rest found another there.
+-- `repeat::Round::fill_slots` meets its contract. The invariant: of the numbers read some are in their slots, and the rest found another there.
 use native.Mathlib.Omega.{arith}
 use Rattle.repeat.proofs.Rounds.{leaving_start, leaving_put, leaving_left, leaving_found}
-use Rattle.repeat.proofs.fill_slots.Goals as goal
+use Rattle.repeat.proofs.Round.fill_slots.Goals as goal
 
 pub loop-x-init : goal.loop-x-init
 loop-x-init c = leaving_start _ _ _ _ c.requires.empty
