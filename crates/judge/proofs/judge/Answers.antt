@@ -1,25 +1,25 @@
 -- `judge::judge` meets its contract: the configuration's number comes first, then 4 where the new or the old segment is not sound.
 use native.Mathlib.Omega.{arith}
-use mathlib.Core.Path.{sym, ◌∙◌}
+use mathlib.Core.Path.{◌≡◌, sym, ◌∙◌}
+use mathlib.Core.Bool.{cond, ◌&&◌}
 use Rattle.refusal.proofs.Numbers.{number_positive, number_returned}
-use Rattle.judge.proofs.Judged.{configured, judged_early, judged_segments}
+use Rattle.card.specs.Sound.{judged}
+use Rattle.judge.specs.code.Scan.{new_sound, old_sound}
+use Rattle.judge.proofs.Judged.{judged_early, judged_segments}
 use Rattle.judge.proofs.judge.Goals as goal
-use Rattle.judge.proofs.judge.Goals.{then-not-new_is_sound-via-then-not-new_is_sound, then-not-new_is_sound-via-else-not-new_is_sound+then-not-old_is_sound}
+use Rattle.judge.proofs.judge.Goals.{After-new_is_sound, then-not-new_is_sound-via-then-not-new_is_sound, then-not-new_is_sound-via-else-not-new_is_sound+then-not-old_is_sound}
 
-pub returns-in_err-check_configuration : goal.returns-in_err-check_configuration
-returns-in_err-check_configuration c =
-    number_returned c.from_residual.result c.in_err-check_configuration.field-0.0 c.from_residual.ensures.1
-    ∙ judged_early _ _ c.in_err-check_configuration.ensures (omega (arith, number_positive))
+by_segments : (c : After-new_is_sound) → let w = c.in_ok-card.card.card.now in judged c.args.card.now ≡ cond (new_sound w && old_sound w) 0 4
+by_segments c = rw c.in_ok-card.ensures.card (judged_segments c.args.card.now (sym c.in_ok-card.ensures.number))
 
-pub new_is_sound-requires : goal.new_is_sound-requires
-new_is_sound-requires c = configured (sym c.in_ok-check_configuration.ensures) c.of-k.ensures
-
-pub old_is_sound-requires : goal.old_is_sound-requires
-old_is_sound-requires c = configured (sym c.in_ok-check_configuration.ensures) c.of-k.ensures
+pub returns-in_err-card : goal.returns-in_err-card
+returns-in_err-card c =
+    number_returned c.from_residual.result c.in_err-card.field-0.0 c.from_residual.ensures.1
+    ∙ judged_early _ _ c.in_err-card.ensures.number (omega (arith, number_positive))
 
 pub returns-then-not-new_is_sound : goal.returns-then-not-new_is_sound
 returns-then-not-new_is_sound c =
-    let number = judged_segments c.args.card.now (sym c.in_ok-check_configuration.ensures) in
+    let number = by_segments (goal.at.returns-then-not-new_is_sound c).After-new_is_sound in
     elim c.then-not-new_is_sound.branch [
       | then-not-new_is_sound-via-then-not-new_is_sound w ↦ sym (number ∙ rw (← w.if-not-new_is_sound.ensures))
       | then-not-new_is_sound-via-else-not-new_is_sound+then-not-old_is_sound w ↦ sym (number ∙ rw (← w.if-not-new_is_sound.ensures, ← w.if-not-old_is_sound.ensures))
@@ -27,5 +27,4 @@ returns-then-not-new_is_sound c =
 
 pub returns : goal.returns
 returns c =
-    let number = judged_segments c.args.card.now (sym c.in_ok-check_configuration.ensures) in
-    sym (number ∙ rw (← c.if-not-new_is_sound.ensures, ← c.if-not-old_is_sound.ensures))
+    sym (by_segments (goal.at.returns c).After-new_is_sound ∙ rw (← c.if-not-new_is_sound.ensures, ← c.if-not-old_is_sound.ensures))
