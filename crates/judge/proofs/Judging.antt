@@ -17,6 +17,7 @@ use Rattle.block.specs.Block.{pairs, formed}
 use Rattle.block.specs.declared.Ends.{Ends}
 use Rattle.block.proofs.Reading.{formed_rising, formed_some}
 use Rattle.card.proofs.Circle.{around_cons}
+use Rattle.card.proofs.Ordered.{place_on_law, around_on}
 use Rattle.card.proofs.Live.{place_words}
 use Rattle.card.specs.Layout.{start_of_old, length_of_old, boundary, old_places, new_places, place_count, first_pair, place, around, pairs_at}
 use Rattle.card.specs.Sound.{live_block, blocks_sound, first_reaches}
@@ -191,3 +192,10 @@ old_places_law c h = go (length_of_old c)
 pub old_none : (c : List ℕ) → length_of_old c ≡ 0 → true ≡ old_sound c
 unfolding old_sound around blocks_sound pairs_at rising_from first_reaches
 old_none c e = rw e
+
+-- for the tactic at the functions: the walk over a segment, and the two segments
+pub ruleset walk = (walking_start, walking_none, walking_low, walking_turn, walking_end, place_on_law)
+
+pub ruleset new_walk = (new_ends, around_on)
+
+pub ruleset old_walk = (old_none, old_dead, old_low, old_turn, old_places_law, around_on)

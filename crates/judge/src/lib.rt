@@ -51,6 +51,7 @@ impl Configured<'_> {
     }
 
     // Scans len places from start, around the circle, whose pairs are to rise above the rank after; the rank of the last pair.
+    #[tactic(auto, using(crate::proofs::Judging::walk), unfolding(pair::specs::Rank::Words))]
     fn scan_segment(self, start: u16, len: u16, after: u64) -> Option<u64>
         ensures { result ≡ segment_scanned self.entry.card.now after (around (place_count self.entry.card.now) start len) }
     {
@@ -66,6 +67,7 @@ impl Configured<'_> {
     }
 
     // Whether the new segment is sound and rises up to the boundary.
+    #[tactic(auto, using(crate::proofs::Judging::new_walk))]
     fn new_is_sound(self) -> bool
         ensures { result ≡ new_sound self.entry.card.now }
     {
@@ -74,6 +76,7 @@ impl Configured<'_> {
     }
 
     // Whether the old segment is sound and rises, and its first block reaches above the boundary.
+    #[tactic(auto, using(crate::proofs::Judging::old_walk), unfolding(pair::specs::Rank::Words))]
     fn old_is_sound(self) -> bool
         ensures { result ≡ old_sound self.entry.card.now }
     {
@@ -94,6 +97,7 @@ impl Configured<'_> {
 }
 
 // Refuses a card that is not sound.
+#[tactic(auto, using(refusal::proofs::Numbers::number_positive, crate::proofs::Judged::judged_early, crate::proofs::Judged::judged_segments))]
 pub fn judge(card: &[u32]) -> Result<(), Refusal>
     ensures { number_of result ≡ judged card.now }
 {
