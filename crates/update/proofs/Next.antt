@@ -19,9 +19,9 @@ use Rattle.batch.specs.Batch.{Update, updates, applied, batch_number}
 use Rattle.batch.proofs.InOrder.{rising_batch, proper_batch}
 use Rattle.batch.proofs.Local.{above_applied}
 use Rattle.card.specs.Layout.{block_size, boundary, entry, place, live, due_place}
-use Rattle.card.specs.Sound.{judged}
 use Rattle.card.proofs.Facts.{Facts, facts}
 use Rattle.card.proofs.Live.{live_rising, live_proper}
+use Rattle.update.specs.declared.merge.Pass.{Pass}
 use Rattle.update.specs.Step.{remains, due_block, due_entry, next_write, crowded}
 use Rattle.update.proofs.Configuration.{live_on, next_boundary_on, mark_above, some}
 use Rattle.update.proofs.Frame.{due_place_alike, due_block_alike}
@@ -38,15 +38,22 @@ remaining c b f wc wb e =
       proper = each_keep Proper (ltb (boundary c)) (applied (updates b) (live c)) (proper_batch b (live c) wb e (live_proper c f wc));
     }
 
--- the words of a slice are words, and so with a card and a batch in hand
+-- the words of a slice are words, and so are those of a pass's card and batch
 pub words_read : (ws : List ℕ) → ((i : ℕ) → Fits w32 (get_or ws i 0)) → Words ws
 unfolding Words
 words_read ws h i = omega (arith, h i)
 
-pub remaining_read :
-    (c b : List ℕ) → judged c ≡ 0 → ((i : ℕ) → Fits w32 (get_or c i 0)) → ((i : ℕ) → Fits w32 (get_or b i 0)) → batch_number b ≡ 0 →
-    Remaining c (remains c b)
-remaining_read c b j wc wb e = remaining c b (facts c j) (words_read c wc) (words_read b wb) e
+pub card_words : (p : Pass) → Words p.card.now
+unfolding Words
+card_words p = p.card_words
+
+pub batch_words : (p : Pass) → Words p.batch.now
+unfolding Words
+batch_words p = p.batch_words
+
+-- what remains, where a pass goes over it
+pub remaining_on : (p : Pass) → Remaining p.card.now (remains p.card.now p.batch.now)
+remaining_on p = remaining p.card.now p.batch.now (facts p.card.now p.sound) (card_words p) (batch_words p) p.in_order
 
 -- With the due block and its map entry in place the third write is next.
 pub next_ready : (c r : List ℕ) → (0 < length r → DueWritten c r) → next_write c r ≡ 3

@@ -3,13 +3,10 @@ ghost use Rattle.std.specs.Prelude.{◌≡◌, replicate};
 ghost use Rattle.pair.specs.Rank.{Proper};
 ghost use Rattle.pair.specs.Rising.{Each};
 ghost use Rattle.card.specs.Layout.{block_size};
-ghost use Rattle.card.specs.Sound.{judged};
-ghost use Rattle.batch.specs.Batch.{updates, batch_number};
-ghost use Rattle.batch.specs.code.Rounds.{round_reaches};
 ghost use Rattle.update.specs.Step.{remains};
 ghost use Rattle.update.specs.code.Due.{DueOf};
 
-use crate::merge;
+use crate::merge::Pass;
 use pack::Packing;
 
 // The due block: how many of its words are used, the rank of its last pair, 0 for none, and whether pairs stand beyond it.
@@ -34,17 +31,14 @@ impl Due {
 }
 
 // Fills the words, which are 0 at first.
-pub(crate) fn fill(card: &[u32], batch: &[u32], reaches: &[u32], words: &mut [u32]) -> Due
-    requires card_value { judged card.now ≡ 0 }
-    requires batch_value { batch_number batch.now ≡ 0 }
-    requires reaches_value { reaches.now ≡ round_reaches (updates batch.now) }
-    requires words_value { words.old ≡ replicate (block_size card.now) 0 }
-    ensures due { DueOf card.now batch.now words.new result }
-    ensures pairs { Each Proper (remains card.now batch.now) }
+pub(crate) fn fill(pass: Pass, words: &mut [u32]) -> Due
+    requires { words.old ≡ replicate (block_size pass.card.now) 0 }
+    ensures due { DueOf pass.entry.card.now pass.entry.batch.now words.new result }
+    ensures pairs { Each Proper (remains pass.entry.card.now pass.entry.batch.now) }
 {
-    let mut place = merge::start(card);
+    let mut place = pass.start();
     let mut packing = pack::EMPTY;
-    while let Some(next) = merge::next(card, batch, reaches, place) {
+    while let Some(next) = pass.next(place) {
         let Some(put) = pack::put(words, packing, next.rank) else {
             return Due::of(packing, true);
         };

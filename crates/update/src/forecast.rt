@@ -2,10 +2,6 @@
 ghost use Rattle.std.specs.Prelude.{◌≡◌, ◌+◌, ◌≤◌, length};
 ghost use Rattle.pair.specs.Rank.{term};
 ghost use Rattle.pair.specs.Rising.{last};
-ghost use Rattle.card.specs.Layout.{block_size};
-ghost use Rattle.card.specs.Sound.{judged};
-ghost use Rattle.batch.specs.Batch.{updates, batch_number};
-ghost use Rattle.batch.specs.code.Rounds.{round_reaches};
 ghost use Rattle.update.specs.Step.{remains};
 ghost use Rattle.update.specs.Pass.{limit_for};
 ghost use Rattle.update.specs.Forecast.{told_by, forecast_of, blocks_of, limit_of, finishes_of, writes_of, foreseen, outlook, forecast};
@@ -13,9 +9,9 @@ ghost use Rattle.update.specs.code.Merge.{Merges, run_at};
 ghost use Rattle.update.specs.code.Old.{Spends};
 ghost use Rattle.update.specs.code.Tally.{blocks_most, counted, Closed, Addable, Added, Packs, PacksOn, PackedAll};
 
-use crate::merge::Merge;
+use crate::merge::{Merge, Pass};
 use crate::old::{Spent, UNSPENT};
-use crate::{check, merge, old};
+use crate::{check, old};
 use batch::{RECORDS_MOST, rounds};
 use card::layout::Configuration;
 use pair::Pair;
@@ -114,11 +110,9 @@ fn count_block(k: Configuration, tally: Tally, spent: Spent, held: u16) -> Tally
     requires { tally.blocks ≤ blocks_most }
     ensures { result ≡ counted k tally spent held }
 {
-    let before = tally.blocks;
-    let free = tally.free;
-    let blocks = before + 1;
+    let blocks = tally.blocks + 1;
     let taken = held as u32 + k.new_length as u32 + blocks;
-    if free == before && taken < k.places as u32 {
+    if tally.free == tally.blocks && taken < k.places as u32 {
         return Tally {
             blocks,
             free: blocks,
@@ -127,30 +121,25 @@ fn count_block(k: Configuration, tally: Tally, spent: Spent, held: u16) -> Tally
     }
     Tally {
         blocks,
-        free,
         spent,
+        ..tally
     }
 }
 
 // One block more, which ends with a pair and is not the last. Once a write leaves no place free, blocks are only counted.
-fn close(card: &[u32], tally: Tally, last: u64) -> Tally
-    requires card_value { judged card.now ≡ 0 }
+fn close(pass: Pass, tally: Tally, last: u64) -> Tally
     requires blocks_le_blocks_most { tally.blocks ≤ blocks_most }
-    requires spends { Spends card.now last tally.spent }
-    ensures { Closed card.now tally last result }
+    requires spends { Spends pass.card.now last tally.spent }
+    ensures { Closed pass.entry.card.now tally last result }
 {
-    let before = tally.blocks;
-    let free = tally.free;
-    if free != before {
-        let spent = tally.spent;
+    if tally.free != tally.blocks {
         return Tally {
-            blocks: before + 1,
-            free,
-            spent,
+            blocks: tally.blocks + 1,
+            ..tally
         };
     }
-    let k = Configuration::of(card);
-    let spent = old::spent_on(card, tally.spent, last);
+    let k = Configuration::of(pass.card);
+    let spent = old::spent_on(pass.card, tally.spent, last);
     count_block(k, tally, spent, k.old_length - spent.count)
 }
 
@@ -162,49 +151,41 @@ fn last_of(card: &[u32], rank: u64, at: usize, more: usize) -> u64
     if more == 0 {
         return rank;
     }
-    let first = Pair::of_rank(rank);
     let pair = Pair {
-        term: first.term,
         position: card[at + more - 1],
+        ..Pair::of_rank(rank)
     };
     pair.rank()
 }
 
 // Puts a pair and so many of its term behind it into the block in hand, and those that have no room there into the next.
-fn add(card: &[u32], size: usize, filling: Filling, rank: u64, at: usize, more: usize) -> Filling
-    requires card_value { judged card.now ≡ 0 }
-    requires size_value { size ≡ block_size card.now }
-    requires addable { Addable card.now filling rank at more }
-    ensures { Added card.now filling rank at more result }
+fn add(pass: Pass, filling: Filling, rank: u64, at: usize, more: usize) -> Filling
+    requires { Addable pass.card.now filling rank at more }
+    ensures { Added pass.entry.card.now filling rank at more result }
 {
-    let used = filling.used;
-    let before = filling.last;
-    let room = size - used;
-    let head = pack::cost(before, rank) - 1;
-    let last = last_of(card, rank, at, more);
+    let room = pass.size - filling.used;
+    let head = pack::cost(filling.last, rank) - 1;
+    let last = last_of(pass.card, rank, at, more);
     if head + more < room {
-        let tally = filling.tally;
         return Filling {
-            used: used + head + 1 + more,
+            used: filling.used + head + 1 + more,
             last,
-            tally,
+            ..filling
         };
     }
     if room <= head {
-        let tally = close(card, filling.tally, before);
         return Filling {
             used: ENTRY_WORDS + more,
             last,
-            tally,
+            tally: close(pass, filling.tally, filling.last),
         };
     }
     let fit = room - head;
-    let end = last_of(card, rank, at, fit - 1);
-    let tally = close(card, filling.tally, end);
+    let end = last_of(pass.card, rank, at, fit - 1);
     Filling {
         used: ENTRY_WORDS + more - fit,
         last,
-        tally,
+        tally: close(pass, filling.tally, end),
     }
 }
 
@@ -216,69 +197,51 @@ pub(crate) struct Packed {
 }
 
 // Packs the entries of the old block in hand that follow an entry wholly packed, up to the first that a record may touch.
-fn add_entries(card: &[u32], batch: &[u32], reaches: &[u32], size: usize, start: Packed) -> Packed
-    requires card_value { judged card.now ≡ 0 }
-    requires batch_value { batch_number batch.now ≡ 0 }
-    requires reaches_value { reaches.now ≡ round_reaches (updates batch.now) }
-    requires size_value { size ≡ block_size card.now }
-    requires packs { Packs card.now batch.now start.filling start.place.rank }
-    requires merges { Merges card.now batch.now start.place }
-    ensures { PacksOn card.now batch.now start.place.rank result }
+fn add_entries(pass: Pass, start: Packed) -> Packed
+    requires packs { Packs pass.card.now pass.batch.now start.filling start.place.rank }
+    requires merges { Merges pass.card.now pass.batch.now start.place }
+    ensures { PacksOn pass.entry.card.now pass.entry.batch.now start.place.rank result }
 {
-    let place = start.place;
-    let rank = place.rank;
-    let mut old = place.old;
-    let in_hand = old.rank;
-    if (in_hand != rank) | (rank == 0) {
+    let Packed {
+        mut filling,
+        mut place,
+    } = start;
+    if place.old.rank != place.rank || place.rank == 0 {
         return start;
     }
-    let addition = place.addition;
-    let decisions = place.decisions;
-    let bound = batch::quiet_before(batch, reaches, decisions, rank);
+    let bound = batch::quiet_before(pass.batch, pass.reaches, place.decisions, place.rank);
     if bound == 0 {
         return start;
     }
-    let mut filling = start.filling;
-    let mut last = rank;
-    while (old.count == 0) & reads_on(&card[..old.end], old.at) {
-        let first = old::entry(card, old.at, old.end, old.place, old.places);
-        let whole = old::along(card, first, first.count);
-        let highest = whole.rank;
-        if (bound <= highest) | (first.rank == 0) {
+    while place.old.count == 0 && reads_on(&pass.card[..place.old.end], place.old.at) {
+        let old = place.old;
+        let first = old::entry(pass.card, old.at, old.end, old.place, old.places);
+        let whole = old::along(pass.card, first, first.count);
+        if bound <= whole.rank || first.rank == 0 {
             break;
         }
-        filling = add(card, size, filling, first.rank, first.at, first.count);
-        old = whole;
-        last = highest;
+        filling = add(pass, filling, first.rank, first.at, first.count);
+        place = Merge {
+            rank: whole.rank,
+            old: whole,
+            ..place
+        };
     }
-    Packed {
-        filling,
-        place: Merge {
-            rank: last,
-            old,
-            addition,
-            decisions,
-        },
-    }
+    Packed { filling, place }
 }
 
-// Packs all that remains, with where the batch's rounds reach to.
-fn pack_all(card: &[u32], batch: &[u32], reaches: &[u32]) -> Filling
-    requires card_value { judged card.now ≡ 0 }
-    requires batch_value { batch_number batch.now ≡ 0 }
-    requires reaches_value { reaches.now ≡ round_reaches (updates batch.now) }
-    ensures { PackedAll card.now batch.now result }
+// Packs all that remains.
+fn pack_all(pass: Pass) -> Filling
+    ensures { PackedAll pass.entry.card.now pass.entry.batch.now result }
 {
-    let k = Configuration::of(card);
-    let size = k.size as usize;
-    let mut place = merge::start(card);
+    let mut place = pass.start();
     let mut filling = NOTHING;
-    while let Some(next) = merge::next(card, batch, reaches, place) {
-        let more = merge::run(card, batch, reaches, next);
-        filling = add(card, size, filling, next.rank, next.old.at, more);
-        place = merge::along(card, next, more);
-        if reaches.is_empty() && more == next.old.count {
-            let packed = add_entries(card, batch, reaches, size, Packed { filling, place });
+    while let Some(next) = pass.next(place) {
+        let more = pass.run(next);
+        filling = add(pass, filling, next.rank, next.old.at, more);
+        place = pass.along(next, more);
+        if pass.reaches.is_empty() && more == next.old.count {
+            let packed = add_entries(pass, Packed { filling, place });
             filling = packed.filling;
             place = packed.place;
         }
@@ -303,8 +266,7 @@ fn answer(tally: Tally) -> Outlook
     requires { tally.blocks ≤ blocks_most + 1 }
     ensures { told_by result ≡ foreseen tally.blocks (limit_for tally.blocks) tally.free }
 {
-    let blocks = tally.blocks;
-    let free = tally.free;
+    let Tally { blocks, free, .. } = tally;
     let limit = step_limit(blocks);
     if free == blocks {
         return Outlook::Finishes { blocks, limit };
@@ -316,21 +278,15 @@ fn answer(tally: Tally) -> Outlook
     }
 }
 
-// What the run comes to, on a sound card with a batch in order, with where the batch's rounds reach to.
-fn look_ahead(card: &[u32], batch: &[u32], reaches: &[u32]) -> Outlook
-    requires card_value { judged card.now ≡ 0 }
-    requires batch_value { batch_number batch.now ≡ 0 }
-    requires reaches_value { reaches.now ≡ round_reaches (updates batch.now) }
-    ensures { told_by result ≡ outlook card.now (remains card.now batch.now) }
+// What the run comes to.
+fn look_ahead(pass: Pass) -> Outlook
+    ensures { told_by result ≡ outlook pass.entry.card.now (remains pass.entry.card.now pass.entry.batch.now) }
 {
-    let filling = pack_all(card, batch, reaches);
-    let last = filling.last;
-    if last == 0 {
+    let filling = pack_all(pass);
+    if filling.last == 0 {
         return answer(filling.tally);
     }
-    let k = Configuration::of(card);
-    let tally = count_block(k, filling.tally, UNSPENT, 0);
-    answer(tally)
+    answer(count_block(Configuration::of(pass.card), filling.tally, UNSPENT, 0))
 }
 
 // What an uncut run of a batch comes to on a card. A table of where the rounds reach to is made only where there are some.
@@ -340,9 +296,9 @@ pub fn forecast(card: &[u32], batch: &[u32]) -> Result<Outlook, Refusal>
     check(card, batch)?;
     let mut first = [0u32; 1];
     if rounds::fill_reaches(batch, &mut first) == 0 {
-        return Ok(look_ahead(card, batch, &first[..0]));
+        return Ok(look_ahead(Pass::of(card, batch, &first[..0])));
     }
     let mut reaches = [0u32; RECORDS_MOST];
     let count = rounds::fill_reaches(batch, &mut reaches);
-    Ok(look_ahead(card, batch, &reaches[..count]))
+    Ok(look_ahead(Pass::of(card, batch, &reaches[..count])))
 }

@@ -18,6 +18,7 @@ use batch::{RECORDS_MOST, rounds};
 use card::layout;
 use card::layout::{CONFIGURATION_WORDS, Configuration};
 use due::Due;
+use merge::Pass;
 use pack::WORDS_MOST;
 use refusal::Refusal;
 
@@ -181,7 +182,7 @@ fn advance_with(
     ensures answer { IsAnswer (step card.old batch.now) result }
     ensures card { card.new ≡ (step card.old batch.now).card }
 {
-    let due = due::fill(card, batch, reaches, words);
+    let due = due::fill(Pass::of(card, batch, reaches), words);
     let plan = plan(card, Configuration::of(card), words, due)?;
     card[plan.start..plan.start + plan.count].copy_from_slice(&words[..plan.count]);
     Ok(plan.written)

@@ -6,7 +6,7 @@ use Rattle.update.proofs.Fills.{Fills}
 use Rattle.update.proofs.due.fill.Given as goal
 
 abbrev pub invariant-loop-next : goal.invariant-loop-next
-invariant-loop-next l = Fills l.card l.batch l.words l.packing l.place.rank × Merges l.card l.batch l.place
+invariant-loop-next l = Fills l.pass.card.now l.pass.batch.now l.words l.packing l.place.rank × Merges l.pass.card.now l.pass.batch.now l.place
 
 abbrev pub decreases-loop-next : goal.decreases-loop-next
-decreases-loop-next l = length (left l.card l.batch l.place.rank)
+decreases-loop-next l = length (left l.pass.card.now l.pass.batch.now l.place.rank)

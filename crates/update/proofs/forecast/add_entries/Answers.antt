@@ -3,146 +3,74 @@
 use Prim.Native.Nat.{ℕ, ◌<◌}
 use native.Mathlib.Omega.{arith}
 use mathlib.Core.Path.{◌≡◌, sym, ap, ◌∙◌}
-use mathlib.Core.Bool.{true, not}
-use lib.Dec.{eqb, leb}
-use borrow.Author.Tests.{eqb-true, eqb-false, leb-false}
-use Rattle.pair.specs.Rank.{Words}
+use mathlib.Core.Bool.{true}
 use Rattle.pair.proofs.Lists.{drop_take}
-use Rattle.pair.proofs.Tests.{or_left, or_right, and_left, and_right}
 use Rattle.block.specs.code.Scan.{reads_on}
-use Rattle.card.proofs.Facts.{Facts, facts}
+use Rattle.card.proofs.Facts.{facts}
 use Rattle.batch.specs.Batch.{updates}
 use Rattle.batch.proofs.Behind.{Untouched, quiet_behind}
 use Rattle.update.specs.declared.old.OldCursor.{OldCursor}
 use Rattle.update.specs.code.Old.{rest, entry_read, along}
 use Rattle.update.proofs.Cursor.{entry_there}
+use Rattle.update.proofs.Next.{card_words, batch_words}
 use Rattle.update.proofs.Sweeping.{entry_stands_law, entry_addable, sweeps_turn, sweeps_less}
 use Rattle.update.proofs.forecast.add_entries.Goals as goal
+use Rattle.update.proofs.forecast.add_entries.Goals.{After-quiet_before-bound, After-reads_on, After-along-whole}
+
+low : (c : After-quiet_before-bound) → 0 < c.args.start.place.rank
+low c = omega (arith, c.if-place-eq0.false)
+
+-- no record touches a pair before the bound
+free : (c : After-quiet_before-bound) → (y : ℕ) → c.args.start.place.rank < y → y < c.quiet_before-bound.result → Untouched (updates c.args.pass.batch.now) y
+free c y h z = quiet_behind (batch_words c.args.pass) c.requires.merges.decides c.args.pass.in_order (low c) y h (rw (c.quiet_before-bound.ensures, c.args.pass.reached) at z)
+
+-- an entry stands behind the cursor
+reads : (c : After-reads_on) → c.reads_on.result ≡ true → let o = c.loop-place.place.old in reads_on (rest c.args.pass.card.now o.at o.end) ≡ true
+reads c e = sym (c.reads_on.ensures ∙ ap reads_on (drop_take c.loop-place.place.old.at c.loop-place.place.old.end c.args.pass.card.now)) ∙ e
+
+-- it, and the cursor at its last pair
+abbrev first : After-along-whole → OldCursor
+first c = let o = c.loop-place.place.old in entry_read c.args.pass.card.now o.at o.end o.place o.places
+
+whole : (c : After-along-whole) → c.along-whole.result ≡ along c.args.pass.card.now (first c) (first c).count
+whole c = rw c.entry-first.ensures at c.along-whole.ensures
 
 pub entry-first-requires : goal.entry-first-requires
 entry-first-requires c =
-    let none : c.loop-old.old.count ≡ 0 =
-    eqb-true _ _ (and_left _ _ c.loop-old-test.true) in
-    let reads : reads_on (rest c.args.card.now c.loop-old.old.at c.loop-old.old.end) ≡ true =
-    sym (c.reads_on.ensures ∙ ap reads_on (drop_take c.loop-old.old.at c.loop-old.old.end c.args.card.now))
-    ∙ and_right (eqb c.loop-old.old.count 0) _ c.loop-old-test.true in
-    entry_there c.loop-old.invariant.merges.stands none reads
+    entry_there c.loop-place.invariant.merges.stands c.loop-place-test.true (reads (goal.at.entry-first-requires c).After-reads_on c.if-reads_on.true)
 
-pub along-whole-requires : goal.along-whole-requires
-unfolding Words
-along-whole-requires c =
-    let some : 0 < c.args.start.place.rank =
-    let m = c.args.start.place in omega (arith, eqb-false m.rank 0 (or_right (not (eqb m.old.rank m.rank)) _ c.if-in_hand-rank.false)) in
-    let sound : Facts c.args.card.now =
-    facts _ c.requires.card_value in
-    let card_words : Words c.args.card.now =
-    λ i. omega (arith, c.type_inv.card i) in
-    let batch_words : Words c.args.batch.now =
-    λ i. omega (arith, c.type_inv.batch i) in
-    let free : (y : ℕ) → c.args.start.place.rank < y → y < c.quiet_before-bound.result → Untouched (updates c.args.batch.now) y =
-    λ y. λ h. λ z. quiet_behind batch_words c.requires.merges.decides c.requires.batch_value some y h (rw (c.quiet_before-bound.ensures, c.requires.reaches_value) at z) in
-    let none : c.loop-old.old.count ≡ 0 =
-    eqb-true _ _ (and_left _ _ c.loop-old-test.true) in
-    let reads : reads_on (rest c.args.card.now c.loop-old.old.at c.loop-old.old.end) ≡ true =
-    sym (c.reads_on.ensures ∙ ap reads_on (drop_take c.loop-old.old.at c.loop-old.old.end c.args.card.now))
-    ∙ and_right (eqb c.loop-old.old.count 0) _ c.loop-old-test.true in
-    rw c.entry-first.ensures (record { stands = entry_stands_law sound card_words some free c.loop-old.invariant none reads; n_le_count = omega arith })
+pub along-whole-requires-clause-stands : goal.along-whole-requires-clause-stands
+along-whole-requires-clause-stands c =
+    let q = (goal.at.along-whole-requires-clause-stands c).After-quiet_before-bound in
+    let r = (goal.at.along-whole-requires-clause-stands c).After-reads_on in
+    rw c.entry-first.ensures
+    (entry_stands_law (facts _ c.args.pass.sound) (card_words c.args.pass) (low q) (free q) c.loop-place.invariant c.loop-place-test.true (reads r c.if-reads_on.true))
 
 pub add-filling-requires : goal.add-filling-requires
-unfolding Words
 add-filling-requires c =
-    let some : 0 < c.args.start.place.rank =
-    let m = c.args.start.place in omega (arith, eqb-false m.rank 0 (or_right (not (eqb m.old.rank m.rank)) _ c.if-in_hand-rank.false)) in
-    let sound : Facts c.args.card.now =
-    facts _ c.requires.card_value in
-    let card_words : Words c.args.card.now =
-    λ i. omega (arith, c.type_inv.card i) in
-    let batch_words : Words c.args.batch.now =
-    λ i. omega (arith, c.type_inv.batch i) in
-    let free : (y : ℕ) → c.args.start.place.rank < y → y < c.quiet_before-bound.result → Untouched (updates c.args.batch.now) y =
-    λ y. λ h. λ z. quiet_behind batch_words c.requires.merges.decides c.requires.batch_value some y h (rw (c.quiet_before-bound.ensures, c.requires.reaches_value) at z) in
-    let none : c.loop-old.old.count ≡ 0 =
-    eqb-true _ _ (and_left _ _ c.loop-old-test.true) in
-    let reads : reads_on (rest c.args.card.now c.loop-old.old.at c.loop-old.old.end) ≡ true =
-    sym (c.reads_on.ensures ∙ ap reads_on (drop_take c.loop-old.old.at c.loop-old.old.end c.args.card.now))
-    ∙ and_right (eqb c.loop-old.old.count 0) _ c.loop-old-test.true in
-    let whole : let o = c.loop-old.old in
-    let first = entry_read c.args.card.now o.at o.end o.place o.places in
-    c.along-whole.result ≡ along c.args.card.now first first.count =
-    rw c.entry-first.ensures at c.along-whole.ensures in
-    let positive : let o = c.loop-old.old in
-    0 < (entry_read c.args.card.now o.at o.end o.place o.places).rank =
-    let bound = c.quiet_before-bound.result in
-    omega (arith, ap (λ (o : OldCursor). o.rank) c.entry-first.ensures, eqb-false c.entry-first.result.rank 0 (or_right (leb bound c.along-whole.result.rank) _ c.if-bound-highest.false)) in
-    let before : let o = c.loop-old.old in
-    let first = entry_read c.args.card.now o.at o.end o.place o.places in
-    (along c.args.card.now first first.count).rank < c.quiet_before-bound.result =
-    let bound = c.quiet_before-bound.result in
-    omega (arith, ap (λ (o : OldCursor). o.rank) whole, leb-false bound c.along-whole.result.rank (or_left _ _ c.if-bound-highest.false)) in
-    record { card_value = c.requires.card_value; size_value = c.requires.size_value; addable = rw c.entry-first.ensures (entry_addable sound card_words some free c.loop-old.invariant none reads positive before c.requires.batch_value) }
+    let q = (goal.at.add-filling-requires c).After-quiet_before-bound in
+    let r = (goal.at.add-filling-requires c).After-reads_on in
+    let w = whole (goal.at.add-filling-requires c).After-along-whole in
+    rw c.entry-first.ensures
+    (entry_addable (facts _ c.args.pass.sound) (card_words c.args.pass) (low q) (free q) c.loop-place.invariant c.loop-place-test.true (reads r c.if-reads_on.true)
+    (omega (arith, ap (λ (o : OldCursor). o.rank) c.entry-first.ensures, c.if-first-eq0.false)) (omega (arith, ap (λ (o : OldCursor). o.rank) w, c.if-bound-whole.false))
+    c.args.pass.in_order)
 
-pub loop-old-smaller : goal.loop-old-smaller
-unfolding Words
-loop-old-smaller c =
-    let some : 0 < c.args.start.place.rank =
-    let m = c.args.start.place in omega (arith, eqb-false m.rank 0 (or_right (not (eqb m.old.rank m.rank)) _ c.if-in_hand-rank.false)) in
-    let sound : Facts c.args.card.now =
-    facts _ c.requires.card_value in
-    let card_words : Words c.args.card.now =
-    λ i. omega (arith, c.type_inv.card i) in
-    let batch_words : Words c.args.batch.now =
-    λ i. omega (arith, c.type_inv.batch i) in
-    let free : (y : ℕ) → c.args.start.place.rank < y → y < c.quiet_before-bound.result → Untouched (updates c.args.batch.now) y =
-    λ y. λ h. λ z. quiet_behind batch_words c.requires.merges.decides c.requires.batch_value some y h (rw (c.quiet_before-bound.ensures, c.requires.reaches_value) at z) in
-    let none : c.loop-old.old.count ≡ 0 =
-    eqb-true _ _ (and_left _ _ c.loop-old-test.true) in
-    let reads : reads_on (rest c.args.card.now c.loop-old.old.at c.loop-old.old.end) ≡ true =
-    sym (c.reads_on.ensures ∙ ap reads_on (drop_take c.loop-old.old.at c.loop-old.old.end c.args.card.now))
-    ∙ and_right (eqb c.loop-old.old.count 0) _ c.loop-old-test.true in
-    let whole : let o = c.loop-old.old in
-    let first = entry_read c.args.card.now o.at o.end o.place o.places in
-    c.along-whole.result ≡ along c.args.card.now first first.count =
-    rw c.entry-first.ensures at c.along-whole.ensures in
-    let positive : let o = c.loop-old.old in
-    0 < (entry_read c.args.card.now o.at o.end o.place o.places).rank =
-    let bound = c.quiet_before-bound.result in
-    omega (arith, ap (λ (o : OldCursor). o.rank) c.entry-first.ensures, eqb-false c.entry-first.result.rank 0 (or_right (leb bound c.along-whole.result.rank) _ c.if-bound-highest.false)) in
-    let before : let o = c.loop-old.old in
-    let first = entry_read c.args.card.now o.at o.end o.place o.places in
-    (along c.args.card.now first first.count).rank < c.quiet_before-bound.result =
-    let bound = c.quiet_before-bound.result in
-    omega (arith, ap (λ (o : OldCursor). o.rank) whole, leb-false bound c.along-whole.result.rank (or_left _ _ c.if-bound-highest.false)) in
-    rw whole (sweeps_less sound card_words some free c.loop-old.invariant none reads positive before)
+pub loop-place-smaller : goal.loop-place-smaller
+loop-place-smaller c =
+    let q = (goal.at.loop-place-smaller c).After-quiet_before-bound in
+    let r = (goal.at.loop-place-smaller c).After-reads_on in
+    let w = whole (goal.at.loop-place-smaller c).After-along-whole in
+    rw w
+    (sweeps_less (facts _ c.args.pass.sound) (card_words c.args.pass) (low q) (free q) c.loop-place.invariant c.loop-place-test.true (reads r c.if-reads_on.true)
+    (omega (arith, ap (λ (o : OldCursor). o.rank) c.entry-first.ensures, c.if-first-eq0.false)) (omega (arith, ap (λ (o : OldCursor). o.rank) w, c.if-bound-whole.false)))
 
-pub loop-old-preserved : goal.loop-old-preserved
-unfolding Words
-loop-old-preserved c =
-    let some : 0 < c.args.start.place.rank =
-    let m = c.args.start.place in omega (arith, eqb-false m.rank 0 (or_right (not (eqb m.old.rank m.rank)) _ c.if-in_hand-rank.false)) in
-    let sound : Facts c.args.card.now =
-    facts _ c.requires.card_value in
-    let card_words : Words c.args.card.now =
-    λ i. omega (arith, c.type_inv.card i) in
-    let batch_words : Words c.args.batch.now =
-    λ i. omega (arith, c.type_inv.batch i) in
-    let free : (y : ℕ) → c.args.start.place.rank < y → y < c.quiet_before-bound.result → Untouched (updates c.args.batch.now) y =
-    λ y. λ h. λ z. quiet_behind batch_words c.requires.merges.decides c.requires.batch_value some y h (rw (c.quiet_before-bound.ensures, c.requires.reaches_value) at z) in
-    let none : c.loop-old.old.count ≡ 0 =
-    eqb-true _ _ (and_left _ _ c.loop-old-test.true) in
-    let reads : reads_on (rest c.args.card.now c.loop-old.old.at c.loop-old.old.end) ≡ true =
-    sym (c.reads_on.ensures ∙ ap reads_on (drop_take c.loop-old.old.at c.loop-old.old.end c.args.card.now))
-    ∙ and_right (eqb c.loop-old.old.count 0) _ c.loop-old-test.true in
-    let whole : let o = c.loop-old.old in
-    let first = entry_read c.args.card.now o.at o.end o.place o.places in
-    c.along-whole.result ≡ along c.args.card.now first first.count =
-    rw c.entry-first.ensures at c.along-whole.ensures in
-    let positive : let o = c.loop-old.old in
-    0 < (entry_read c.args.card.now o.at o.end o.place o.places).rank =
-    let bound = c.quiet_before-bound.result in
-    omega (arith, ap (λ (o : OldCursor). o.rank) c.entry-first.ensures, eqb-false c.entry-first.result.rank 0 (or_right (leb bound c.along-whole.result.rank) _ c.if-bound-highest.false)) in
-    let before : let o = c.loop-old.old in
-    let first = entry_read c.args.card.now o.at o.end o.place o.places in
-    (along c.args.card.now first first.count).rank < c.quiet_before-bound.result =
-    let bound = c.quiet_before-bound.result in
-    omega (arith, ap (λ (o : OldCursor). o.rank) whole, leb-false bound c.along-whole.result.rank (or_left _ _ c.if-bound-highest.false)) in
-    rw whole (sweeps_turn sound card_words some free c.loop-old.invariant none reads positive before _ (rw c.entry-first.ensures at c.add-filling.ensures))
+pub loop-place-preserved : goal.loop-place-preserved
+loop-place-preserved c =
+    let q = (goal.at.loop-place-preserved c).After-quiet_before-bound in
+    let r = (goal.at.loop-place-preserved c).After-reads_on in
+    let w = whole (goal.at.loop-place-preserved c).After-along-whole in
+    rw w
+    (sweeps_turn (facts _ c.args.pass.sound) (card_words c.args.pass) (low q) (free q) c.loop-place.invariant c.loop-place-test.true (reads r c.if-reads_on.true)
+    (omega (arith, ap (λ (o : OldCursor). o.rank) c.entry-first.ensures, c.if-first-eq0.false)) (omega (arith, ap (λ (o : OldCursor). o.rank) w, c.if-bound-whole.false))
+    _ (rw c.entry-first.ensures at c.add-filling.ensures))

@@ -5,8 +5,8 @@ use Rattle.update.specs.code.Merge.{left}
 use Rattle.update.proofs.Sweeping.{Sweeps}
 use Rattle.update.proofs.forecast.add_entries.Given as goal
 
-abbrev pub invariant-loop-old : goal.invariant-loop-old
-invariant-loop-old l = Sweeps l.card l.batch l.rank l.bound l.addition l.decisions l.old l.filling l.last
+abbrev pub invariant-loop-place : goal.invariant-loop-place
+invariant-loop-place l = Sweeps l.pass.card.now l.pass.batch.now l.fn.start.place.rank l.bound l.place.addition l.place.decisions l.place.old l.filling l.place.rank
 
-abbrev pub decreases-loop-old : goal.decreases-loop-old
-decreases-loop-old l = length (left l.card l.batch l.last)
+abbrev pub decreases-loop-place : goal.decreases-loop-place
+decreases-loop-place l = length (left l.pass.card.now l.pass.batch.now l.place.rank)

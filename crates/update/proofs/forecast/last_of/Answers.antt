@@ -12,4 +12,4 @@ returns-then-more-eq0 c = rw c.if-more-eq0.true
 
 pub returns : goal.returns
 returns c =
-    rw (c.rank.ensures, c.of_rank-first.ensures) (sym (last_run _ _ _ _ _ (omega (arith, c.if-more-eq0.false))))
+    rw (c.rank.ensures, c.of_rank.ensures) (sym (last_run _ _ _ _ _ (omega (arith, c.if-more-eq0.false))))

@@ -6,7 +6,7 @@ use Rattle.update.specs.code.Tally.{Packs}
 use Rattle.update.proofs.forecast.pack_all.Given as goal
 
 abbrev pub invariant-loop-next : goal.invariant-loop-next
-invariant-loop-next l = Packs l.card l.batch l.filling l.place.rank × Merges l.card l.batch l.place
+invariant-loop-next l = Packs l.pass.card.now l.pass.batch.now l.filling l.place.rank × Merges l.pass.card.now l.pass.batch.now l.place
 
 abbrev pub decreases-loop-next : goal.decreases-loop-next
-decreases-loop-next l = length (left l.card l.batch l.place.rank)
+decreases-loop-next l = length (left l.pass.card.now l.pass.batch.now l.place.rank)

@@ -3,7 +3,7 @@ use native.Mathlib.Omega.{arith}
 use mathlib.Core.Path.{sym}
 use Rattle.update.specs.code.Merge.{place_along}
 use Rattle.update.proofs.Running.{place_along_some}
-use Rattle.update.proofs.merge.along.Goals as goal
+use Rattle.update.proofs.merge.Pass.along.Goals as goal
 
 pub returns-then-n-eq0 : goal.returns-then-n-eq0
 unfolding place_along

@@ -4,9 +4,9 @@ use Prim.Native.Nat.{◌+◌, ◌-◌}
 use mathlib.Core.Path.{◌≡◌}
 use Rattle.card.proofs.Facts.{facts}
 use Rattle.batch.proofs.Behind.{untouched_behind}
-use Rattle.update.proofs.Next.{words_read}
+use Rattle.update.proofs.Next.{card_words, batch_words}
 use Rattle.update.proofs.Running.{runs_none, runs_up_to, run_room}
-use Rattle.update.proofs.merge.run.Goals as goal
+use Rattle.update.proofs.merge.Pass.run.Goals as goal
 
 pub returns-then-old-eq0 : goal.returns-then-old-eq0
 returns-then-old-eq0 c = runs_none c.requires.merges
@@ -20,8 +20,8 @@ slice_bounds-up_to-end c = run_room c.requires.merges
 pub returns : goal.returns
 returns c =
     let m = c.args.merge in
-    let batch_words = words_read _ c.type_inv.batch in
+    let batch_words = batch_words c.args.self in
     let count : m.old.at + m.old.count - m.old.at ≡ m.old.count = omega arith in
-    runs_up_to (facts _ c.requires.card_value) (words_read _ c.type_inv.card) c.requires.merges c.if-old-merge.false c.requires.rank_nonzero (rw c.of_rank.ensures at c.if-of_rank-old.false) _ _
-    (λ y l t z. untouched_behind batch_words c.requires.merges.decides c.requires.batch_value c.requires.rank_nonzero y l t (rw (c.untouched-to.ensures, c.requires.reaches_value) at z))
+    runs_up_to (facts _ c.args.self.sound) (card_words c.args.self) c.requires.merges c.if-old-merge.false c.requires.rank_nonzero (rw c.of_rank.ensures at c.if-of_rank-old.false) _ _
+    (λ y l t z. untouched_behind batch_words c.requires.merges.decides c.args.self.in_order c.requires.rank_nonzero y l t (rw (c.untouched-to.ensures, c.args.self.reached) at z))
     (rw count at c.up_to.ensures)
