@@ -17,6 +17,7 @@ pub struct Span {
 }
 
 // Where a write of a step stands in the card that the step left; no words for a write that is none of the three.
+#[tactic(auto, using(crate::proofs::Spans::spans), unfolding(crate::specs::Span::write_span))]
 pub fn write_span(card: &[u32], write: u32) -> Result<Span, Refusal>
     ensures { answered result ≡ write_span card.now write }
 {
