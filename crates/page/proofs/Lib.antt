@@ -5,5 +5,6 @@ pub mod Fields
 pub mod Figures
 pub mod Joining
 pub mod Lines
+pub mod Parts
 pub mod Printing
 pub mod ReadBack

@@ -2,7 +2,7 @@
 
 #![tactic(auto)]
 
-ghost use Rattle.std.specs.Prelude.{◌+◌, ◌*◌, ◌≤◌, length};
+ghost use Rattle.std.specs.Prelude.{◌≡◌, ◌*◌, ◌≤◌, length};
 ghost use Rattle.std.specs.Result.{result_unwrap_or};
 ghost use Rattle.refusal.specs.Refusal.{number_of};
 ghost use Rattle.reader.specs.code.PostingReader.{left_in};
@@ -27,35 +27,41 @@ const LINE_FEED: usize = LINE_BYTES - 1;
 
 // Writes the five fields of a line.
 #[tactic(auto, unfolding(crate::specs::Page::joined))]
-fn put_fields(reader: &mut PostingReader<'_>, memory: &mut [u8], at: usize)
-    requires { at + line_fields * field_bytes ≤ length memory.old }
-    ensures { FieldsPut (left_in reader.old) memory.old at line_fields (left_in reader.new) memory.new }
+fn put_fields(reader: &mut PostingReader<'_>, fields: &mut [u8])
+    requires { length fields.old ≡ line_fields * field_bytes }
+    ensures { FieldsPut (left_in reader.old) (left_in reader.new) fields.new }
 {
     for j in 0..LINE_FIELDS {
-        put_field(memory, at + FIELD_BYTES * j, reader.next());
+        put_field(
+            &mut fields[FIELD_BYTES * j..FIELD_BYTES * (j + 1)],
+            reader.next(),
+        );
     }
 }
 
 // Writes the line after i others: the term on the first line only, the fields, a line feed.
-#[tactic(auto, using(crate::proofs::Lines::line_put))]
-fn put_line(reader: &mut PostingReader<'_>, term: u32, i: usize, memory: &mut [u8])
-    requires { line_bytes * i + line_bytes ≤ length memory.old }
-    ensures { LinePut term i (left_in reader.old) memory.old (left_in reader.new) memory.new }
+fn put_line(reader: &mut PostingReader<'_>, term: u32, i: usize, line: &mut [u8])
+    requires { length line.old ≡ line_bytes }
+    ensures { LinePut term i (left_in reader.old) (left_in reader.new) line.new }
 {
-    let at = LINE_BYTES * i;
-    put_head(memory, at, term, i);
-    put_fields(reader, memory, at + COLUMN_WIDTH);
-    memory[at + LINE_FEED] = b'\n';
+    put_head(&mut line[..COLUMN_WIDTH], term, i);
+    put_fields(reader, &mut line[COLUMN_WIDTH..LINE_FEED]);
+    line[LINE_FEED] = b'\n';
 }
 
 // Writes so many lines.
-#[tactic(auto, using(crate::proofs::Lines::lining_turn), unfolding(crate::specs::Page::joined))]
+#[tactic(auto, unfolding(crate::specs::Page::joined))]
 fn put_lines(mut reader: PostingReader<'_>, term: u32, lines: usize, memory: &mut [u8])
     requires { line_bytes * lines ≤ length memory.old }
     ensures { LinesPut term lines (left_in reader.entry) memory.old memory.new }
 {
     for i in 0..lines {
-        put_line(&mut reader, term, i, memory);
+        put_line(
+            &mut reader,
+            term,
+            i,
+            &mut memory[LINE_BYTES * i..LINE_BYTES * (i + 1)],
+        );
     }
 }
 

@@ -4,4 +4,4 @@ use Rattle.page.proofs.Fields.{Fielding}
 use Rattle.page.proofs.put_fields.Given as goal
 
 abbrev pub invariant-loop-j : goal.invariant-loop-j
-invariant-loop-j l = Fielding (left_in l.initial.reader) l.initial.memory l.at (left_in l.reader) l.memory l.j
+invariant-loop-j l = Fielding (left_in l.initial.reader) l.initial.fields (left_in l.reader) l.fields l.j

@@ -3,7 +3,7 @@ use Rattle.std.specs.Prelude.{ℕ, ◌+◌, ◌*◌, ◌≡◌, cond, Option, So
 use Rattle.std.proofs.lemmas.List.Edits.{sets}
 use Rattle.pair.specs.Rank.{Words}
 use Rattle.page.specs.Figures.{blank, column, no_column}
-use Rattle.page.specs.Page.{line_fields, line_bytes, joined, field, line}
+use Rattle.page.specs.Page.{line_fields, joined, field, line}
 
 -- the field of what a reader yields
 unfoldable pub field_of : Option ℕ → List ℕ
@@ -18,14 +18,14 @@ head_of t i = cond (eqb i 0) (column t) no_column
 abbrev pub fields_from : List ℕ → ℕ → ℕ → List ℕ
 fields_from ps n k = joined (λ j. field ps (n + j)) k
 
--- the fields of the first k postings that are left are put, and the others are left then
-pub record FieldsPut (left l : List ℕ) (at k : ℕ) (then now : List ℕ) : Type 0 where
-  pub put : (ps : List ℕ) (n : ℕ) → Words ps → left ≡ drop n ps → now ≡ sets l at (fields_from ps n k)
-  pub rest : (ps : List ℕ) (n : ℕ) → left ≡ drop n ps → then ≡ drop (n + k) ps
+-- the fields of the first postings that are left are put, and the others are left then
+pub record FieldsPut (left then now : List ℕ) : Type 0 where
+  pub put : (ps : List ℕ) (n : ℕ) → Words ps → left ≡ drop n ps → now ≡ fields_from ps n line_fields
+  pub rest : (ps : List ℕ) (n : ℕ) → left ≡ drop n ps → then ≡ drop (n + line_fields) ps
 
 -- the line after i others is put, and its postings are no longer left
-pub record LinePut (t i : ℕ) (left l then now : List ℕ) : Type 0 where
-  pub put : (ps : List ℕ) → Words ps → left ≡ drop (line_fields * i) ps → now ≡ sets l (line_bytes * i) (line t ps i)
+pub record LinePut (t i : ℕ) (left then now : List ℕ) : Type 0 where
+  pub put : (ps : List ℕ) → Words ps → left ≡ drop (line_fields * i) ps → now ≡ line t ps i
   pub rest : (ps : List ℕ) → left ≡ drop (line_fields * i) ps → then ≡ drop (line_fields * i + line_fields) ps
 
 -- the first n lines are put

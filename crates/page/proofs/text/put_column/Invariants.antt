@@ -3,4 +3,4 @@ use Rattle.page.proofs.Columns.{Figuring}
 use Rattle.page.proofs.text.put_column.Given as goal
 
 abbrev pub invariant-loop-place : goal.invariant-loop-place
-invariant-loop-place l = Figuring l.initial.memory l.at l.n l.memory l.place l.rest
+invariant-loop-place l = Figuring l.n l.columns l.place l.rest
