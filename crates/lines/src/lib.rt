@@ -20,7 +20,7 @@ const KEY: usize = 1;
 
 const RECORDS_MOST: usize = batch::RECORDS_MOST;
 
-const WORDS_MOST: usize = RECORD_WORDS * batch::RECORDS_MOST;
+pub const BATCH_WORDS: usize = RECORD_WORDS * batch::RECORDS_MOST;
 
 const LINE_FEED: u8 = b'\n';
 
@@ -102,7 +102,7 @@ fn sort_records(bytes: &[u8], batch: &mut [u32], records: &mut [u32]) -> Result<
 pub fn read_batch(bytes: &[u8], batch: &mut [u32]) -> Result<usize, Fault>
     ensures { answered result batch.new ≡ scored bytes.now batch.old }
 {
-    let mut records = [0u32; WORDS_MOST];
+    let mut records = [0u32; BATCH_WORDS];
     sort_records(
         &bytes[..bytes.len().min(SETTLING_BYTES)],
         batch,

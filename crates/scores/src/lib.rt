@@ -8,11 +8,10 @@ ghost use Rattle.pair.specs.Rank.{word_limit};
 ghost use Rattle.card.specs.Sound.{judged};
 ghost use Rattle.scores.specs.Outcome.{told, steps_most, pass, outcome, printed_line, printed};
 
+use lines::BATCH_WORDS;
 use refusal::Refusal;
 
-// The most words of a batch, the sizes of the card, and its words.
-const BATCH_WORDS: usize = 20_480;
-
+// The sizes of the card, and its words.
 const BLOCK_WORDS: u32 = 8;
 
 const PLACES: u32 = 6;
