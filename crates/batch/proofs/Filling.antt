@@ -7,16 +7,13 @@ use mathlib.Core.List.{List, [], ◌∷◌}
 use mathlib.Core.Logic.{◌≢◌}
 use lib.ListN.{length, take, drop, get_or, set, length-drop, length-take, take-append-drop}
 use lib.Seq.{sets, length-sets, get_or-drop, drop-drop, take_all}
-use mathlib.Core.Bool.{Bool, true, false}
-use lib.Dec.{ltb}
-use borrow.Author.Tests.{eq-eqb, ne_eqb, ltb-true, ltb-false}
+use borrow.Author.Tests.{eq-eqb, ne_eqb}
 use Rattle.pair.proofs.Lists.{sets_append, sets_next, sets_out, part_sets_same}
 use Rattle.batch.specs.Batch.{Update, updates, batch_number}
 use Rattle.batch.specs.code.Rounds.{reaches_from, round_reaches}
 use Rattle.batch.proofs.Annulling.{rounds_few}
 use Rattle.batch.proofs.InOrder.{in_order}
-use Rattle.batch.specs.code.Records.{records_of}
-use Rattle.batch.proofs.Records.{length_updates, array_beyond}
+use Rattle.batch.proofs.Records.{length_updates}
 
 -- the first n are written, and the rest is to come from where these reach to
 pub record Filling (b l now : List ℕ) (reach n : ℕ) : Type 0 where
@@ -83,14 +80,6 @@ module _ {b l now : List ℕ} {reach n : ℕ} (f : Filling b l now reach n) wher
       let first : length (take n all) ≡ n = length-take n all ∙ omega (arith, f.few) in
       let behind = sets_out (sets l 0 (take n all)) (0 + length (take n all)) (drop n all) (omega (arith, length-sets l 0 (take n all), full, first)) in
       (omega (arith, full, f.few), sym (ap (sets l 0) (sym (take-append-drop n all)) ∙ (sets_append (take n all) (drop n all) l 0 ∙ (behind ∙ sym f.written))))
-
-  -- or all records were read
-  pub filling_done : {rs : List (List ℕ)} → rs ≡ records_of b → n ≡ min (length rs) (length now) → Filled
-  filling_done {rs} r e = go (ltb n (length now)) refl
-    where
-      go : (t : Bool) → ltb n (length now) ≡ t → Filled
-      go true f = filling_end (array_beyond b n r (omega (arith, ltb-true n (length now) f)))
-      go false f = filling_full (omega (arith, ltb-false n (length now) f))
 
 -- a batch in order has no more rounds than records
 pub rounds_most : (b : List ℕ) → batch_number b ≡ 0 → length (round_reaches (updates b)) ≤ 4096

@@ -28,8 +28,8 @@ fn fill_arrivals(records: &[RecordWords], numbers: &mut [u32])
     requires { length records.now ≤ length numbers.old }
     ensures { numbers.new ≡ sets numbers.old 0 (arrivals (updates_of records.now)) }
 {
-    for n in 0..records.len() {
-        numbers[n] = Record::of(&records[n]).arrival;
+    for (n, words) in records.iter().enumerate() {
+        numbers[n] = Record::of(words).arrival;
     }
 }
 

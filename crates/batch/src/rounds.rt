@@ -16,17 +16,16 @@ pub fn fill_reaches(batch: &[u32], reaches: &mut [u32]) -> usize
     ensures { (result ≡ min (length reaches.old) (length (round_reaches (updates batch.now)))) × (reaches.new ≡ sets reaches.old 0 (round_reaches (updates batch.now))) }
 {
     let records = records_of(batch);
-    let most = records.len().min(reaches.len());
     let mut reach: u32 = 0;
-    for n in 0..most {
-        let u = Record::of(&records[n]);
-        if !u.is_round() {
+    for (n, words) in records.iter().enumerate() {
+        let u = Record::of(words);
+        if n == reaches.len() || !u.is_round() {
             return n;
         }
         reach = reach.max(u.to);
         reaches[n] = reach;
     }
-    most
+    records.len()
 }
 
 // Records that may be rounds, and where these reach to: for each the greatest position that it and those before it reach to.
