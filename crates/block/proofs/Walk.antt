@@ -10,7 +10,6 @@ use borrow.Author.Tests.{le-leb, lt-leb, not-false, leb-false}
 use lib.ListN.{length, take, drop, get_or, drop_of_length-le, length-drop}
 use lib.Seq.{drop-cons, get_or-drop}
 use lib.Dec.{ltb, leb, eqb, leb-zero, leb-suc-zero, leb-suc-suc}
-use Rattle.std.specs.List.{list_all}
 use Rattle.pair.specs.Rank.{rank}
 use Rattle.pair.specs.Rising.{rising_from, last}
 use Rattle.block.specs.Block.{zeros, pairs_from, formed_from, formed}
@@ -36,11 +35,19 @@ pub rises_end : {s : List ℕ} {ok : Bool} {p i : ℕ} → Rises s ok p i → le
 unfolding rising_from
 rises_end {s} {ok} {p} {i} r h = sym (r.rest ∙ rw (drop_of_length-le s h) (and-true ok))
 
--- what the loop over all words answers
-pub zeros-all : (s : List ℕ) → zeros s ≡ list_all (λ w. eqb w 0) s
+-- the same for words that are all 0
+pub record Zeros (s : List ℕ) (ok : Bool) (i : ℕ) : Type 0 where
+  pub within : i ≤ length s
+  pub rest : zeros s ≡ (ok && zeros (drop i s))
+
+pub zeros_turn : {s : List ℕ} {ok : Bool} {i : ℕ} → Zeros s ok i → i < length s → Zeros s (ok && eqb (get_or s i 0) 0) (i + 1)
 unfolding zeros
-zeros-all [] = refl
-zeros-all (w ∷ s) = rw (zeros-all s)
+zeros_turn {s} {ok} {i} r h =
+    record { within = omega arith; rest = r.rest ∙ rw (add-one, drop-cons s i 0) (sym (and_assoc ok (eqb (get_or s i 0) 0) _)) }
+
+pub zeros_end : {s : List ℕ} {ok : Bool} {i : ℕ} → Zeros s ok i → length s ≤ i → ok ≡ zeros s
+unfolding zeros
+zeros_end {s} {ok} {i} r h = sym (r.rest ∙ rw (drop_of_length-le s h) (and-true ok))
 
 -- the state p of a reading that stands between two entries does not matter
 pub formed_between : (ws : List ℕ) (t p : ℕ) → formed_from ws t 0 p ≡ formed_from ws t 0 0

@@ -29,11 +29,15 @@ fn rises(positions: &[u32]) -> bool
     ok
 }
 
-// Whether every word is 0.
+// Whether every word is 0. It goes over all of them, so that it is vectorised.
 fn is_zero(words: &[u32]) -> bool
     ensures { result ≡ zeros words.now }
 {
-    words.iter().all(|&word| word == 0)
+    let mut ok = true;
+    for &word in words {
+        ok = ok & (word == 0);
+    }
+    ok
 }
 
 // Whether an entry that goes on from the term stands at i: three words remain, its term is greater, and its positions are there.
