@@ -243,3 +243,6 @@ module _ {ws : List ℕ} {t a z i : ℕ} (w : Words ws) (s : Seek ws t a z i) (o
           let first : words_before (is_wanted t a z) (drop (i + 2) ws) t n ≡ length (at_most a P)
           = ap (λ k. words_before (is_wanted t a z) (drop (i + 2) ws) t k) (sym m) ∙ words_first t a z 0 (drop (i + 2) ws) (i + 2 + n - (i + 2)) (rw (length-drop, m) h) e.rising some in
           omega (arith, s.before f, rw l at (words_at ws i s.last o (is_wanted t a z)), first, p.before e.rising)
+
+-- for the tactic at the function
+pub ruleset seek = (seek_start, seek_stop, seek_misfit, seek_past, seek_turn, seek_found, entry_room)

@@ -14,7 +14,7 @@ use Rattle.pair.proofs.Keep.{keep_none}
 use Rattle.pair.proofs.Order.{position_rank}
 use Rattle.pair.proofs.Parts.{at_most_none}
 use Rattle.pair.proofs.Rising.{rising_tail}
-use Rattle.pair.proofs.Search.{Halved, halved_start, halved_up, halved_end, stretch}
+use Rattle.pair.proofs.Search.{Halved, halved_start, halved_up, halved_down, halved_end, stretch}
 use Rattle.pair.proofs.Sets.{rising_Each}
 use Rattle.block.specs.Block.{pairs_from, words_before}
 use Rattle.wanted.specs.code.Wanted.{is_wanted, UpTo, EntryPart}
@@ -148,3 +148,6 @@ words_first t a z k (p ∷ ws) (suc n) l r s =
         (each_imply (λ x. p < x) (λ x. in_range a z x ≡ false) (λ x q. rw (lt-leb x z (omega arith)) (and-false (ltb a x))) R (rising_Each R p (rising_tail p R k r))) in
         absurd (let m : 0 < 0 = rw none at g in omega arith)
     go false y e f g ih = rw (le-leb p a (ltb-false a p e), ih g)
+
+-- for the tactic at the function
+pub ruleset halving = (halved_start, halved_down, halved_found, all_up_to)

@@ -17,6 +17,7 @@ pub struct Part {
 const NOTHING: Part = Part { start: 0, len: 0 };
 
 // How many of the rising positions are at most the bound. None or all are told by the first or the last of them alone.
+#[tactic(auto, using(crate::proofs::Wanting::halving))]
 pub fn up_to(positions: &[u32], bound: u32) -> usize
     ensures { UpTo positions.now bound result }
 {
@@ -41,6 +42,7 @@ pub fn up_to(positions: &[u32], bound: u32) -> usize
 }
 
 // The walk over one entry: where its wanted positions start, which is how many of its positions stand before them, and how many they are.
+#[tactic(auto, using(crate::proofs::Wanting::entry_counts))]
 fn entry_part(positions: &[u32], after: u32, to: u32) -> Part
     ensures { EntryPart positions.now after to result }
 {
@@ -61,6 +63,7 @@ pub fn reads_on(words: &[u32], i: usize) -> bool
 }
 
 // The wanted positions of a block: it goes from entry to entry, to the first whose term is not below the wanted one.
+#[tactic(auto, using(crate::proofs::Seeking::seek), unfolding(pair::specs::Rank::Words))]
 pub fn block_part(words: &[u32], term: u32, after: u32, to: u32) -> Part
     ensures { BlockPart words.now term after to result }
 {
