@@ -174,12 +174,13 @@ pub struct Latest {
     pub arrival: u32,
 }
 
-const NONE: Latest = Latest {
-    reach: 0,
-    arrival: 0,
-};
-
 impl Latest {
+    // Of no removals.
+    const NONE: Latest = Latest {
+        reach: 0,
+        arrival: 0,
+    };
+
     // The latest removal that reaches to a pair, with one record more.
     #[tactic(auto, unfolding(crate::specs::code::Search::latest_with))]
     fn with(self, u: Record, rank: u64) -> Latest
@@ -199,7 +200,7 @@ impl Latest {
     fn of(records: &[RecordWords], rank: u64) -> Latest
         ensures { result ≡ latest_of rank none (updates_of records.now) }
     {
-        let mut latest = NONE;
+        let mut latest = Latest::NONE;
         for words in records {
             latest = latest.with(Record::of(words), rank);
         }
@@ -225,10 +226,7 @@ pub const START: Cursor = Cursor {
         added: 0,
         arrived: 0,
     },
-    latest: Latest {
-        reach: 0,
-        arrival: 0,
-    },
+    latest: Latest::NONE,
     begun: 0,
 };
 
