@@ -4,14 +4,16 @@
 
 ghost use Rattle.std.specs.Prelude.{◌≡◌, ◌+◌, ◌≤◌, length, replicate, OnOk};
 ghost use Rattle.refusal.specs.Refusal.{number_of};
+ghost use Rattle.pair.specs.Rank.{Proper};
+ghost use Rattle.pair.specs.Rising.{Each};
 ghost use Rattle.card.specs.Layout.{block_size};
 ghost use Rattle.card.specs.Sound.{judged};
 ghost use Rattle.card.specs.code.Configuration.{put, Ordered};
-ghost use Rattle.batch.specs.Batch.{updates, batch_number};
-ghost use Rattle.batch.specs.code.Rounds.{round_reaches};
-ghost use Rattle.update.specs.Step.{step};
+ghost use Rattle.batch.specs.Batch.{batch_number};
+ghost use Rattle.update.specs.Step.{remains, step};
 ghost use Rattle.update.specs.Answer.{write_number, freed_by, finished_by, IsAnswer};
 ghost use Rattle.update.specs.Forecast.{forecast_number};
+ghost use Rattle.update.specs.code.Due.{DueOf};
 ghost use Rattle.update.specs.code.Plan.{Freed, followed, settling, Planned};
 
 use batch::{RECORDS_MOST, rounds};
@@ -168,41 +170,21 @@ fn plan(card: &[u32], k: Configuration, words: &mut [u32], due: Due) -> Result<W
     Ok(settle(words, k, due, freed, grown))
 }
 
-// Makes the next write of a sound card with a batch in order, in as many words of room as a block has, with where the batch's rounds reach to.
-fn advance_with(
-    card: &mut [u32],
-    batch: &[u32],
-    reaches: &[u32],
-    words: &mut [u32],
-) -> Result<Written, Refusal>
-    requires card_value { judged card.old ≡ 0 }
+// Fills words, which are 0 at first, with the due block. A table of where the batch's rounds reach to is made only where there are some.
+fn fill_due(card: &[u32], batch: &[u32], words: &mut [u32]) -> Due
+    requires card_value { judged card.now ≡ 0 }
     requires batch_value { batch_number batch.now ≡ 0 }
-    requires reaches_value { reaches.now ≡ round_reaches (updates batch.now) }
-    requires words_value { words.old ≡ replicate (block_size card.old) 0 }
-    ensures answer { IsAnswer (step card.old batch.now) result }
-    ensures card { card.new ≡ (step card.old batch.now).card }
-{
-    let due = due::fill(Pass::of(card, batch, reaches), words);
-    let plan = plan(card, Configuration::of(card), words, due)?;
-    card[plan.start..plan.start + plan.count].copy_from_slice(&words[..plan.count]);
-    Ok(plan.written)
-}
-
-// The same, and works out where the rounds reach to; a table for them is made only where there are some.
-fn advance(card: &mut [u32], batch: &[u32], words: &mut [u32]) -> Result<Written, Refusal>
-    requires card_value { judged card.old ≡ 0 }
-    requires batch_value { batch_number batch.now ≡ 0 }
-    requires words_value { words.old ≡ replicate (block_size card.old) 0 }
-    ensures answer { IsAnswer (step card.old batch.now) result }
-    ensures card { card.new ≡ (step card.old batch.now).card }
+    requires words_value { words.old ≡ replicate (block_size card.now) 0 }
+    ensures due { DueOf card.now batch.now words.new result }
+    ensures pairs { Each Proper (remains card.now batch.now) }
 {
     let mut first = [0u32; 1];
     if rounds::fill_reaches(batch, &mut first) == 0 {
-        return advance_with(card, batch, &first[..0], words);
+        return due::fill(Pass::of(card, batch, &first[..0]), words);
     }
     let mut reaches = [0u32; RECORDS_MOST];
     let count = rounds::fill_reaches(batch, &mut reaches);
-    advance_with(card, batch, &reaches[..count], words)
+    due::fill(Pass::of(card, batch, &reaches[..count]), words)
 }
 
 // Refuses a card that is not sound, and a batch that is not in order.
@@ -221,7 +203,11 @@ pub fn step(card: &mut [u32], batch: &[u32]) -> Result<Written, Refusal>
     ensures card { card.new ≡ (step card.old batch.now).card }
 {
     check(card, batch)?;
-    let size = Configuration::of(card).size as usize;
+    let k = Configuration::of(card);
     let mut buffer = [0u32; WORDS_MOST];
-    advance(card, batch, &mut buffer[..size])
+    let words = &mut buffer[..k.size as usize];
+    let due = fill_due(card, batch, words);
+    let plan = plan(card, k, words, due)?;
+    card[plan.start..plan.start + plan.count].copy_from_slice(&words[..plan.count]);
+    Ok(plan.written)
 }
