@@ -193,3 +193,6 @@ reading_end {ws} {ok} {i} {t} {p} r o e f =
     let z : zeros (drop i ws) ≡ true = rw (rest_all ws i) at (and_right ok _ f) in
     let l : last 0 (pairs ws) ≡ rank t p = r.last ∙ rw (pairs_rest (drop i ws) t z) in
     rw (formed_start ws s g, ← first_pair_law ws s, l)
+
+-- for the tactic at the function
+pub ruleset scan = (reading_start, reading_turn, reading_tail, reading_end, standing, unformed, unformed_first)

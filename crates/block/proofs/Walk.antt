@@ -120,3 +120,6 @@ reads_on_short ws i h = simp (length-drop, le-leb (length ws - i) 2 (omega arith
 pub reads_on_at : (ws : List ℕ) (i : ℕ) → i + 2 < length ws → not (eqb (get_or ws i 0) 0) ≡ reads_on (drop i ws)
 unfolding reads_on
 reads_on_at ws i h = simp (length-drop, lt-leb (length ws - i) 2 (omega arith), get_or-drop, add-zero)
+
+-- for the tactic at the function
+pub ruleset rise = (rises_start, rises_turn, rises_end)

@@ -17,6 +17,7 @@ pub struct Ends {
 }
 
 // Whether each position is greater than the one before, and the first greater than 0.
+#[tactic(auto, using(crate::proofs::Walk::rise))]
 fn rises(positions: &[u32]) -> bool
     ensures { result ≡ rising_from 0 positions.now }
 {
@@ -54,6 +55,7 @@ fn entry_stands(words: &[u32], i: usize, term: u32) -> bool
 }
 
 // Goes over the words of a block once; none where they are no live block. An entry that does not stand ends the walk as the zeros do, and what follows is then not all 0.
+#[tactic(auto, using(crate::proofs::Scanning::scan))]
 pub fn scan(words: &[u32]) -> Option<Ends>
     ensures { result ≡ scanned words.now }
 {

@@ -72,7 +72,8 @@ pub fn block_part(words: &[u32], term: u32, after: u32, to: u32) -> Part
         let next = words[i];
         let count = words[i + 1] as usize;
         let start = i + 2;
-        if words.len() - start < count {
+        let room = words.len() - start;
+        if room < count {
             return NOTHING;
         }
         if term < next {

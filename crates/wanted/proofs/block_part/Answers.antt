@@ -16,18 +16,18 @@ words c = λ i. omega (arith, c.type_inv.words i)
 on : (c : In-loop-next) → reads_on (drop c.loop-next.i c.args.words.now) ≡ true
 on c = sym c.loop-next-test.ensures
 
-pub returns-then-words-start : goal.returns-then-words-start
-returns-then-words-start c = seek_misfit c.loop-next.invariant (on (goal.at.returns-then-words-start c).In-loop-next) c.if-words-start.true
+pub returns-then-room-count : goal.returns-then-room-count
+returns-then-room-count c = seek_misfit c.loop-next.invariant (on (goal.at.returns-then-room-count c).In-loop-next) (omega arith)
 
 pub returns-then-term-next : goal.returns-then-term-next
 returns-then-term-next c =
     let t = (goal.at.returns-then-term-next c).In-loop-next in
-    seek_past (words t) c.loop-next.invariant (on t) c.if-words-start.false (omega arith) c.if-term-next.true
+    seek_past (words t) c.loop-next.invariant (on t) (omega arith) (omega arith) c.if-term-next.true
 
 pub returns-then-next-term : goal.returns-then-next-term
 returns-then-next-term c =
     let t = (goal.at.returns-then-next-term c).In-loop-next in
-    seek_found (words t) c.loop-next.invariant (on t) c.if-words-start.false (omega arith) c.if-next-term.true c.entry_part-found.ensures
+    seek_found (words t) c.loop-next.invariant (on t) (omega arith) (omega arith) c.if-next-term.true c.entry_part-found.ensures
 
 pub returns : goal.returns
 returns c = seek_stop c.loop-next.invariant (sym c.loop-next-test.ensures)
