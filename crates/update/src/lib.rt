@@ -122,7 +122,8 @@ struct WritePlan {
 // Plans the configuration write.
 fn settle(words: &mut [u32], k: Configuration, due: Due, freed: u16, grown: u16) -> WritePlan
     requires { freed ≤ k.old_length }
-    ensures { (result ≡ settling due freed) × (words.new ≡ put words.old (followed k due freed grown)) }
+    ensures plan { result ≡ settling due freed }
+    ensures words { words.new ≡ put words.old (followed k due freed grown) }
 {
     following(k, due, freed, grown).put(words);
     WritePlan {

@@ -13,7 +13,7 @@ pub returns-then-due-eq0 : goal.returns-then-due-eq0
 returns-then-due-eq0 c =
     let f = facts _ c.requires.card_value in
     let o = c.requires.ordered in
-    rw (c.settle.ensures.0, c.settle.ensures.1)
+    rw (c.settle.ensures.plan, c.settle.ensures.words)
     (record {
       few = rw (length_put, c.requires.words_len) f.size_low;
       of = λ r p a. plan_none f o a c.freed-freed.ensures c.if-due-eq0.true c.args.words.now c.requires.words_len _ o.of_new;
@@ -60,7 +60,7 @@ returns c =
     let o = c.requires.ordered in
     let due = c.due_place-place.ensures ∙ due_place_on o in
     let long = length-set c.args.words.now 1 (get_or c.args.words.now 2 0) ∙ c.requires.words_len in
-    rw (c.settle-2.ensures.0, c.settle-2.ensures.1)
+    rw (c.settle-2.ensures.plan, c.settle-2.ensures.words)
     (record {
       few = rw (length_put, long) f.size_low;
       of = λ r p a.
