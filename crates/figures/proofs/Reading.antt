@@ -3,17 +3,16 @@ use Prim.Native.Nat.{ℕ, suc, ◌+◌, ◌*◌, ◌-◌, ◌≤◌, ◌<◌}
 use native.Mathlib.Omega.{arith}
 use native.Mathlib.Numerals.{add-one}
 use mathlib.Core.Path.{◌≡◌, refl, sym, ap, ◌∙◌}
-use mathlib.Core.Logic.{◌≢◌, ◌⊎◌, inl, inr}
 use mathlib.Core.Bool.{Bool, true, false, cond, ◌&&◌, ◌||◌, not, and-false}
 use mathlib.Core.List.{List, [], ◌∷◌}
 use Rattle.std.specs.Option.{SomeIff}
 use Rattle.std.proofs.Common.{Option, Some, None}
-use borrow.Author.Tests.{lt-ltb, le-ltb, ltb-true, ltb-false, eq-eqb, ne_eqb, eqb-true, eqb-false}
+use borrow.Author.Tests.{lt-ltb, le-ltb, ltb-true, ltb-false, eqb-true, eqb-false}
 use lib.ListN.{length, get_or, drop, drop_of_length-le}
 use lib.Seq.{drop-cons}
 use lib.Dec.{ltb, eqb}
 use Rattle.pair.specs.Rank.{word_limit}
-use Rattle.pair.proofs.Tests.{and_left, and_right, or_intro}
+use Rattle.pair.proofs.Tests.{and_left, and_right}
 use Rattle.figures.specs.Figures.{figure, is_figure, all_figures, worth, is_number}
 use Rattle.figures.specs.code.Reading.{number_in, with_figure}
 
@@ -89,23 +88,34 @@ unfolding with_figure
 figured_other v b e = rw e
 
 -- with a first byte that may begin a number the figures decide
-pub reading_start : (bs : List ℕ) → eqb (length bs) 0 ≡ false → (length bs ≡ 1) ⊎ (get_or bs 0 0 ≢ figure 0) → Reading bs 0 0
+pub reading_start : (bs : List ℕ) → eqb (length bs) 0 ≡ false → (not (eqb (length bs) 1) && eqb (get_or bs 0 0) (figure 0)) ≡ false → Reading bs 0 0
 unfolding number_in is_number read_from
-reading_start bs h e = record { small = omega arith; rest = rw (lt-ltb 0 (length bs) (omega (arith, eqb-false (length bs) 0 h)), first e) }
+reading_start bs h e =
+    record {
+      small = omega arith;
+      rest = rw (lt-ltb 0 (length bs) (omega (arith, eqb-false (length bs) 0 h)), turned (eqb (length bs) 1) (eqb (get_or bs 0 0) (figure 0)) e);
+    }
   where
-    first : (length bs ≡ 1) ⊎ (get_or bs 0 0 ≢ figure 0) → (eqb (length bs) 1 || not (eqb (get_or bs 0 0) (figure 0))) ≡ true
-    first (inl l) = rw (eq-eqb (length bs) 1 l)
-    first (inr n) = or_intro (eqb (length bs) 1) (not (eqb (get_or bs 0 0) (figure 0))) (inr (rw (ne_eqb (get_or bs 0 0) (figure 0) n)))
+    turned : (a b : Bool) → (not a && b) ≡ false → (a || not b) ≡ true
+    turned true b e = refl
+    turned false true e = sym e
+    turned false false e = refl
 
 -- no bytes, or a zero before others, show no number
 pub none_read : (bs : List ℕ) → eqb (length bs) 0 ≡ true → None ≡ number_in bs
 unfolding number_in is_number
 none_read bs e = rw (eqb-true (length bs) 0 e)
 
-pub zero_read : (bs : List ℕ) → length bs ≢ 1 → get_or bs 0 0 ≡ figure 0 → None ≡ number_in bs
+pub zero_read : (bs : List ℕ) → (not (eqb (length bs) 1) && eqb (get_or bs 0 0) (figure 0)) ≡ true → None ≡ number_in bs
 unfolding number_in is_number
-zero_read bs n e = rw (ne_eqb (length bs) 1 n, eq-eqb (get_or bs 0 0) (figure 0) e) (fails (ltb 0 (length bs)) (all_figures bs) (ltb (worth 0 bs) word_limit) (worth 0 bs))
+zero_read bs e =
+    rw (turned (eqb (length bs) 1) (eqb (get_or bs 0 0) (figure 0)) e) (fails (ltb 0 (length bs)) (all_figures bs) (ltb (worth 0 bs) word_limit) (worth 0 bs))
   where
+    turned : (a b : Bool) → (not a && b) ≡ true → (a || not b) ≡ false
+    turned true b e = sym e
+    turned false true e = refl
+    turned false false e = sym e
+
     fails : (a b c : Bool) (n : ℕ) → None ≡ cond (a && false && b && c) (Some n) None
     fails true b c n = refl
     fails false b c n = refl

@@ -24,7 +24,7 @@ pub fn number(bytes: &[u8]) -> Option<u32>
     if bytes.is_empty() {
         return None;
     }
-    if bytes.len() != 1 && bytes[0] == b'0' {
+    if (bytes.len() != 1) & (bytes[0] == b'0') {
         return None;
     }
     let mut value: u32 = 0;

@@ -30,7 +30,7 @@ fn main(rt: HostRuntime) {
     if let Ok(count) = read_input(&mut rt.stdin(), &mut buffer) {
         let outcome = scores::outcome_of(&buffer[..count]);
         let mut line = [0u8; LINE_BYTES];
-        let length = scores::put_outcome(&mut line, outcome);
+        let length = scores::put_outcome(&mut line, outcome.map_err(u32::from));
         let _written = io::writer(&rt).write_all(&line[..length]);
     }
 }

@@ -13,6 +13,11 @@ pub data Outcome : Type 0 where
   Finished : (steps : ℕ) → Outcome
   Refused : (number : ℕ) → Outcome
 
+-- the outcome that steps or a number are
+abbrev pub ended : Result ℕ ℕ → Outcome
+ended (Ok steps) = Finished steps
+ended (Err n) = Refused n
+
 -- the outcome that an answer tells
 abbrev pub told : Result ℕ Refusal → Outcome
 told (Ok steps) = Finished steps

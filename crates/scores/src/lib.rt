@@ -6,7 +6,7 @@ ghost use Rattle.std.specs.Prelude.{◌≡◌, ◌<◌, ◌≤◌, length};
 ghost use Rattle.std.proofs.lemmas.List.Edits.{sets};
 ghost use Rattle.pair.specs.Rank.{word_limit};
 ghost use Rattle.card.specs.Sound.{judged};
-ghost use Rattle.scores.specs.Outcome.{told, steps_most, pass, outcome, printed_line, printed};
+ghost use Rattle.scores.specs.Outcome.{ended, told, steps_most, pass, outcome, printed_line, printed};
 
 use lines::BATCH_WORDS;
 use refusal::Refusal;
@@ -61,13 +61,13 @@ fn put_line(line: &mut [u8; LINE_BYTES], letter: u8, n: u32) -> usize
     end + 1
 }
 
-// Writes the line that is printed of an outcome, and answers how many bytes it has.
-pub fn put_outcome(line: &mut [u8; LINE_BYTES], outcome: Result<u32, Refusal>) -> usize
-    ensures value { (result ≡ length (printed (told outcome))) × (line.new ≡ sets line.old 0 (printed (told outcome))) }
+// Writes the line that is printed of an outcome, a count of steps or any number, and answers how many bytes it has.
+pub fn put_outcome(line: &mut [u8; LINE_BYTES], outcome: Result<u32, u32>) -> usize
+    ensures value { (result ≡ length (printed (ended outcome))) × (line.new ≡ sets line.old 0 (printed (ended outcome))) }
     ensures upper_bound { result ≤ 13 }
 {
     match outcome {
         Ok(steps) => put_line(line, b'D', steps),
-        Err(refusal) => put_line(line, b'N', u32::from(refusal)),
+        Err(number) => put_line(line, b'N', number),
     }
 }

@@ -8,4 +8,4 @@ returns-in-Ok-clause-value c = rw c.in-Ok.is c.put_line.ensures.value
 
 pub returns-in-Err-clause-value : goal.returns-in-Err-clause-value
 unfolding printed
-returns-in-Err-clause-value c = rw (c.in-Err.is, ← c.from.ensures) c.put_line-in-Err.ensures.value
+returns-in-Err-clause-value c = rw c.in-Err.is c.put_line-in-Err.ensures.value
