@@ -17,6 +17,7 @@ use Rattle.found.specs.declared.walk.Stretch.{Stretch}
 use Rattle.found.specs.declared.walk.Walk.{Walk}
 use Rattle.found.specs.Found.{found, question_number}
 use Rattle.found.specs.code.Walk.{ahead, ReadyWalk}
+use Rattle.found.proofs.Walking.{spent_walk_ready, spent_walk_ahead}
 use Rattle.reader.specs.declared.cursor.Cursor.{Cursor}
 use Rattle.reader.specs.Reader.{all_yielded}
 use Rattle.reader.specs.code.Cursor.{left_at, StandsIn, NextInHand, CursorStep}
@@ -61,11 +62,16 @@ taken x e =
       same = λ s. ∥∥₁_elim s (Prim.hlevel props) (λ i. rw e (x.same i.ready));
     }
 
--- no run is left
-pub step_end : {c : List ℕ} (k : Cursor) → (ReadyWalk c k.walk → ahead c k.walk ≡ []) → k.left ≡ 0 → CursorStep c k None k
+-- no run is left, and the walk is spent
+pub step_end :
+    {c : List ℕ} (k : Cursor) → (ReadyWalk c k.walk → ahead c k.walk ≡ []) → k.left ≡ 0 → CursorStep c k None (record k { walk = no_walk })
 step_end {c} k none e =
     let nothing : StandsIn c k → left_at c k ≡ [] = λ s. ∥∥₁_elim s (Prim.hlevel props) (λ i. rw e (none i.ready)) in
-    record { word = tt; stands = λ s. s; first = λ s. (nothing s, nothing s) }
+    record {
+      word = tt;
+      stands = λ s. ∥∥₁_map s (λ i. record { inside = i.inside; ready = spent_walk_ready c no_walk refl });
+      first = λ s. (nothing s, rw e (spent_walk_ahead c no_walk refl));
+    }
 
 -- a posting of the run is left
 pub step_posting :

@@ -54,13 +54,18 @@ fn run_at(card: &[u32], walk: Walk) -> Option<Cursor>
     })
 }
 
-// One posting, or the end, and on to the place behind it; nothing is judged.
+// One posting, or the end, and on to the place behind it; nothing is judged. At the end the walk is left without blocks, so that a further step
+// reads none of the card's.
 #[inline]
 pub fn step_at(card: &[u32], cursor: &mut Cursor) -> Option<u32>
     ensures { CursorStep card.now cursor.old result cursor.new }
 {
     if cursor.left == 0 {
-        *cursor = run_at(card, cursor.walk)?;
+        let Some(next) = run_at(card, cursor.walk) else {
+            cursor.walk = Walk::EMPTY;
+            return None;
+        };
+        *cursor = next;
     }
     let Some(&position) = card.get(cursor.at) else {
         return None;

@@ -40,17 +40,14 @@ pub fn open<'a>(card: &'a [u32], q: Question) -> PostingReader<'a>
     ensures card { result.card ≡ card.entry }
     ensures left { left_at result.card.now result.cursor ≡ all_yielded card.now q.term q.from q.to }
 {
-    match open_at(card, q) {
-        Ok(cursor) => PostingReader {
-            number: 0,
-            card,
-            cursor,
-        },
-        Err(refusal) => PostingReader {
-            number: u32::from(refusal),
-            card,
-            cursor: Cursor::before(Walk::EMPTY),
-        },
+    let (number, cursor) = match open_at(card, q) {
+        Ok(cursor) => (0, cursor),
+        Err(refusal) => (u32::from(refusal), Cursor::before(Walk::EMPTY)),
+    };
+    PostingReader {
+        number,
+        card,
+        cursor,
     }
 }
 
@@ -58,6 +55,8 @@ pub fn open<'a>(card: &'a [u32], q: Question) -> PostingReader<'a>
 pub fn open_counted<'a>(card: &'a [u32], q: Question) -> Result<Counted<'a>, Refusal>
     ensures number { number_of result ≡ question_number card.now q.term q.from q.to }
     ensures count { IfOk result (λ r. (r.count ≡ length (found card.now q.term q.from q.to)) × (r.count < word_limit)) }
+    ensures reader_number { IfOk result (λ r. r.reader.number ≡ 0) }
+    ensures card { IfOk result (λ r. r.reader.card ≡ card.entry) }
     ensures left { IfOk result (λ r. left_at r.reader.card.now r.reader.cursor ≡ found card.now q.term q.from q.to) }
 {
     let counted = q.counted_walk(card)?;
@@ -69,6 +68,15 @@ pub fn open_counted<'a>(card: &'a [u32], q: Question) -> Result<Counted<'a>, Ref
             cursor: Cursor::before(counted.walk),
         },
     })
+}
+
+impl PostingReader<'_> {
+    // Where it stands: step_at goes on from there.
+    pub fn cursor(&self) -> Cursor
+        ensures { result ≡ self.now.cursor }
+    {
+        self.cursor
+    }
 }
 
 impl<'a> Iterator for PostingReader<'a> {

@@ -8,13 +8,13 @@ use Rattle.reader.proofs.open.Goals as goal
 pub returns-clause-left : goal.returns-clause-left
 returns-clause-left c =
     elim c.match-open_at.branch [
-      | in-Ok w ↦ rw w.result-is (w.in-Ok.ensures.cursor.rest ∙ all_found _ _ _ _ w.in-Ok.ensures.number)
-      | in-Err w ↦ rw (w.result-is, w.before-in-Err.ensures) (spent_walk_ahead _ no_walk refl ∙ none_yielded _ _ _ _ _ w.in-Err.ensures.number)
+      | in-Ok w ↦ rw w.number-is (w.in-Ok.ensures.cursor.rest ∙ all_found _ _ _ _ w.in-Ok.ensures.number)
+      | in-Err w ↦ rw (w.number-is, w.before-in-Err.ensures) (spent_walk_ahead _ no_walk refl ∙ none_yielded _ _ _ _ _ w.in-Err.ensures.number)
     ]
 
 pub invariant_of-result : goal.invariant_of-result
 invariant_of-result c =
     elim c.match-open_at.branch [
-      | in-Ok w ↦ rw w.result-is record { stands = w.in-Ok.ensures.cursor.stands }
-      | in-Err w ↦ rw (w.result-is, w.before-in-Err.ensures) record { stands = stands_before (spent_walk_ready _ no_walk refl) }
+      | in-Ok w ↦ rw w.number-is record { stands = w.in-Ok.ensures.cursor.stands }
+      | in-Err w ↦ rw (w.number-is, w.before-in-Err.ensures) record { stands = stands_before (spent_walk_ready _ no_walk refl) }
     ]
