@@ -9,8 +9,8 @@ use Rattle.lookup.proofs.copy_stretch.Goals as goal
 pub loop-place-init : goal.loop-place-init
 loop-place-init c = moving_start _ _ c.requires.ready
 
-pub slice_bounds-copy_from_slice-end : goal.slice_bounds-copy_from_slice-end
-slice_bounds-copy_from_slice-end c =
+pub slice_bounds-move_words-end-in-Some : goal.slice_bounds-move_words-end-in-Some
+slice_bounds-move_words-end-in-Some c =
     omega (arith, moving_room c.loop-place.invariant c.in-Some.ensures.some c.place_part-start.ensures c.requires.answer_in_bounds, c.loop-place.auto.answer)
 
 pub loop-place-preserved : goal.loop-place-preserved
@@ -18,7 +18,7 @@ loop-place-preserved c =
     let room = moving_room c.loop-place.invariant c.in-Some.ensures.some c.place_part-start.ensures c.requires.answer_in_bounds in
     let fits : c.loop-place.next + c.place_part-start.result.len ≤ length c.loop-place.answer = omega (arith, room, c.loop-place.auto.answer) in
     moving_turn c.loop-place.invariant c.in-Some.ensures.some c.place_part-start.ensures
-    (part_copied _ _ _ _ _ c.place_part-start.ensures.inside fits c.copy_from_slice.ensures.after)
+    (part_copied _ _ _ _ _ c.place_part-start.ensures.inside fits c.move_words.ensures)
 
 pub returns-clause-word : goal.returns-clause-word
 returns-clause-word c = (moving_end c.loop-place.invariant (c.in_default.ensures.none refl)).0
