@@ -16,5 +16,4 @@ pub mod Numbering
 pub mod Records
 pub mod Search
 pub mod Serving
-pub mod Sorting
 pub mod Behind

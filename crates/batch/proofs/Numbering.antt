@@ -3,13 +3,11 @@ use Prim.Native.Nat.{ℕ, zero, suc, ◌+◌, ◌≤◌, ◌<◌}
 use native.Mathlib.Nat.{add-zero}
 use native.Mathlib.Omega.{arith}
 use mathlib.Core.Path.{◌≡◌, refl, sym, ap, ap₂, ◌∙◌}
-use mathlib.Core.Bool.{◌||◌}
+use mathlib.Core.Bool.{Bool, false, ◌||◌, or_assoc, or-false}
 use mathlib.Core.List.{List, [], ◌∷◌}
-use lib.ListN.{length, take, drop, get_or, set, replicate, length-replicate}
+use lib.ListN.{length, take, drop, get_or, set, replicate, length-replicate, drop_of_length-le}
 use lib.Seq.{sets, get_or-drop, take_all}
 use lib.Dec.{eqb}
-use Rattle.std.specs.List.{list_any}
-use Rattle.std.proofs.lemmas.Bool.Decides.{nat_tests}
 use Rattle.pair.specs.Rising.{any}
 use Rattle.pair.proofs.Lists.{sets_next, part_sets_same}
 use Rattle.batch.specs.declared.reading.Record.{Record}
@@ -28,15 +26,6 @@ arrivals_drop zero us = refl
 arrivals_drop (suc n) [] = refl
 arrivals_drop (suc n) (u ∷ us) = arrivals_drop n us
 
-eqb_swap : (a b : ℕ) → eqb a b ≡ eqb b a
-eqb_swap a b = grind (arith, nat_tests)
-
--- one of them is 0
-pub any_zero : (rs : List (List ℕ)) → list_any (λ ws. eqb (record_of ws).arrival 0) rs ≡ any (eqb 0) (arrivals (updates_of rs))
-unfolding updates_of arrivals any
-any_zero [] = refl
-any_zero (ws ∷ rs) = ap₂ ◌||◌ (eqb_swap (record_of ws).arrival 0) (any_zero rs)
-
 module _ (rs : List (List ℕ)) where
   abbrev all : List ℕ
   all = arrivals (updates_of rs)
@@ -44,24 +33,41 @@ module _ (rs : List (List ℕ)) where
   so_many : length all ≡ length rs
   so_many = length_arrivals (updates_of rs) ∙ length_updates_of rs
 
-  -- one more is written
-  pub numbering_turn :
-      (l : List ℕ) {now : List ℕ} {n : ℕ} (u : Record) → now ≡ sets l 0 (take n all) → n < length rs → n < length now → u ≡ record_of (get_or rs n []) →
-      set now n u.arrival ≡ sets l 0 (take (n + 1) all)
+  -- that of the record n
+  number_at : (n : ℕ) {u : Record} → n < length rs → u ≡ record_of (get_or rs n []) → drop n all ≡ u.arrival ∷ drop (n + 1) all
   unfolding arrivals
-  numbering_turn l {now} {n} u w h i e = ap₂ (λ ws a. set ws n a) w (sym here) ∙ rw first at (sets_next all l 0 n (omega (arith, so_many)))
-    where
-      first : 0 + n ≡ n
-      first = omega arith
+  number_at n h e = arrivals_drop n (updates_of rs) ∙ rw (array_at rs n h e, arrivals_drop (n + 1) (updates_of rs))
 
-      here : get_or all n 0 ≡ u.arrival
-      here =
-          sym (get_or-drop n all 0 0 ∙ ap (λ k. get_or all k 0) (add-zero n))
-          ∙ ap (λ ws. get_or ws 0 0) (arrivals_drop n (updates_of rs) ∙ ap arrivals (array_at rs n h e))
+  -- the first n are written, and one of all is 0 exactly where unnumbered says so of these or one of the rest is
+  pub record Numbering (l now : List ℕ) (unnumbered : Bool) (n : ℕ) : Type 0 where
+    pub written : now ≡ sets l 0 (take n all)
+    pub zeros : any (eqb 0) all ≡ (unnumbered || any (eqb 0) (drop n all))
 
-  -- and at last all of them
-  pub numbering_end : (l : List ℕ) {now : List ℕ} {n : ℕ} → now ≡ sets l 0 (take n all) → length rs ≤ n → now ≡ sets l 0 all
-  numbering_end l {now} {n} w h = w ∙ ap (sets l 0) (take_all n all (omega (arith, so_many)))
+  pub numbering_start : (l : List ℕ) → Numbering l l false 0
+  numbering_start l = record { written = refl; zeros = refl }
+
+  module _ {l now : List ℕ} {unnumbered : Bool} {n : ℕ} (s : Numbering l now unnumbered n) where
+    pub numbering_turn :
+        (u : Record) → n < length rs → n < length now → u ≡ record_of (get_or rs n []) →
+        Numbering l (set now n u.arrival) (unnumbered || eqb 0 u.arrival) (n + 1)
+    unfolding any
+    numbering_turn u h i e =
+        record {
+          written = ap₂ (λ ws a. set ws n a) s.written (sym here) ∙ rw first at (sets_next all l 0 n (omega (arith, so_many)));
+          zeros = s.zeros ∙ rw (number_at n h e) (sym (or_assoc unnumbered (eqb 0 u.arrival) (any (eqb 0) (drop (n + 1) all))));
+        }
+      where
+        first : 0 + n ≡ n
+        first = omega arith
+
+        here : get_or all n 0 ≡ u.arrival
+        here = sym (get_or-drop n all 0 0 ∙ ap (λ k. get_or all k 0) (add-zero n)) ∙ ap (λ ws. get_or ws 0 0) (number_at n h e)
+
+    pub numbering_end : length rs ≤ n → (unnumbered ≡ any (eqb 0) all) × (now ≡ sets l 0 all)
+    unfolding any
+    numbering_end h =
+        let behind : drop n all ≡ [] = drop_of_length-le all (omega (arith, so_many)) in
+        (sym (s.zeros ∙ rw behind (or-false unnumbered)), s.written ∙ ap (sets l 0) (take_all n all (omega (arith, so_many))))
 
   -- in a memory with room for all of them what is written is all
   pub numbers_whole : length rs ≤ 4096 → take (length rs) (sets (replicate 4096 0) 0 all) ≡ all

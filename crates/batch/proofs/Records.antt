@@ -3,12 +3,14 @@ use Prim.Native.Nat.{ℕ, zero, suc, min, ◌+◌, ◌*◌, ◌/◌, ◌%◌, �
 use native.Mathlib.Nat.{add-zero}
 use native.Mathlib.Omega.{arith}
 use mathlib.Core.Path.{◌≡◌, refl, sym, ap, ap₂, ◌∙◌}
-use mathlib.Core.Bool.{Bool, cond, ◌||◌}
+use mathlib.Core.Bool.{Bool, false, cond, ◌||◌, or_assoc, or-false}
 use mathlib.Core.Logic.{◌≢◌}
 use mathlib.Core.List.{List, [], ◌∷◌, ◌++◌}
 use lib.ListN.{length, get_or, take, drop, length-drop, drop_of_length-le}
 use lib.Seq.{get_or-drop, drop-drop, drop-nil, take_all}
+use lib.Dec.{ltb}
 use borrow.Author.Tests.{eq-eqb, ne_eqb, lt-ltb, le-ltb}
+use Rattle.pair.specs.Rank.{rank}
 use Rattle.pair.specs.Tests.{first_of}
 use Rattle.batch.specs.declared.reading.Record.{Record}
 use Rattle.batch.specs.Batch.{Update, updates, any_update, ill_formed, falls, ill_numbered, batch_number}
@@ -159,6 +161,32 @@ take_array (suc n) (ws ∷ rs) = ap (λ us. update_of (record_of ws) ∷ us) (ta
 pub first_arrays : (n : ℕ) (rs : List (List ℕ)) → updates_of (take (min n (length rs)) rs) ≡ take n (updates_of rs)
 first_arrays n rs = take_array (min n (length rs)) rs ∙ (rw (← length_updates_of rs) (take_min n (updates_of rs)))
 
+-- the first n records are read: one of all is ill formed exactly where bad says so of these or one of the rest is, and the same of
+-- the order, with the rank of the last record read
+pub record Reads (rs : List (List ℕ)) (bad fallen : Bool) (before n : ℕ) : Type 0 where
+  pub formed : any_update ill_formed (updates_of rs) ≡ (bad || any_update ill_formed (drop n (updates_of rs)))
+  pub ordered : falls 0 (updates_of rs) ≡ (fallen || falls before (drop n (updates_of rs)))
+
+pub reads_start : (rs : List (List ℕ)) → Reads rs false false 0 0
+reads_start rs = record { formed = refl; ordered = refl }
+
+pub reads_turn :
+    {rs : List (List ℕ)} {bad fallen : Bool} {before n : ℕ} → Reads rs bad fallen before n → n < length rs → (u : Record) → u ≡ record_of (get_or rs n []) →
+    Reads rs (bad || ill_formed (update_of u)) (fallen || ltb (rank u.term u.from) before) (rank u.term u.from) (n + 1)
+unfolding any_update falls
+reads_turn {rs} {bad} {fallen} {before} {n} r h u e =
+    record {
+      formed = r.formed ∙ rw (array_at rs n h e) (sym (or_assoc bad _ _));
+      ordered = r.ordered ∙ rw (array_at rs n h e) (sym (or_assoc fallen _ _));
+    }
+
+pub reads_end :
+    {rs : List (List ℕ)} {bad fallen : Bool} {before n : ℕ} → Reads rs bad fallen before n → length rs ≤ n →
+    (bad ≡ any_update ill_formed (updates_of rs)) × (fallen ≡ falls 0 (updates_of rs))
+unfolding any_update falls
+reads_end {rs} {bad} {fallen} {before} {n} r h =
+    (sym (r.formed ∙ rw (array_end rs n h) (or-false bad)), sym (r.ordered ∙ rw (array_end rs n h) (or-false fallen)))
+
 -- the number that the code answers at each of its returns
 pub number_ragged : (b : List ℕ) → length b % 5 ≢ 0 → 6 ≡ batch_number b
 unfolding batch_number first_of
@@ -173,11 +201,11 @@ module _ (b : List ℕ) {rs : List (List ℕ)} (r : rs ≡ records_of b) (whole 
   number_long h = rw (eq-eqb (length b % 5) 0 whole, lt-ltb 20480 (length b) (omega (arith, so_many)))
 
   pub number_read :
-      length rs ≤ 4096 → (bad numbered fallen : Bool) → bad ≡ list_any (λ ws. ill_formed (update_of (record_of ws))) rs → numbered ≡ ill_numbered (updates_of rs) →
+      length rs ≤ 4096 → (bad numbered fallen : Bool) → bad ≡ any_update ill_formed (updates_of rs) → numbered ≡ ill_numbered (updates_of rs) →
       fallen ≡ falls 0 (updates_of rs) → cond bad 6 (cond numbered 14 (cond fallen 7 0)) ≡ batch_number b
   unfolding batch_number first_of
   number_read h bad numbered fallen e f g =
-      let formed : any_update ill_formed (updates b) ≡ bad = sym (e ∙ (any_array ill_formed rs ∙ ap (any_update ill_formed) (updates_same b r))) in
+      let formed : any_update ill_formed (updates b) ≡ bad = sym (e ∙ ap (any_update ill_formed) (updates_same b r)) in
       let arrived : ill_numbered (updates b) ≡ numbered = sym (f ∙ ap ill_numbered (updates_same b r)) in
       let ordered : falls 0 (updates b) ≡ fallen = sym (g ∙ ap (falls 0) (updates_same b r)) in
       rw (eq-eqb (length b % 5) 0 whole, le-ltb 20480 (length b) (omega (arith, so_many)), formed, arrived, ordered)

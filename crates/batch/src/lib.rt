@@ -3,12 +3,12 @@
 #![tactic(auto)]
 
 ghost use Rattle.std.specs.Prelude.{◌≡◌, ◌≤◌, ◌<◌, [], ◌∷◌, eqb, length};
-ghost use Rattle.std.specs.List.{list_any};
 ghost use Rattle.std.proofs.lemmas.List.Edits.{sets};
 ghost use Rattle.refusal.specs.Refusal.{number_of};
 ghost use Rattle.pair.specs.Rank.{position};
-ghost use Rattle.batch.specs.Batch.{updates, ill_formed, arrivals, ill_numbered, falls, batch_number};
-ghost use Rattle.batch.specs.code.Records.{record_of, updates_of};
+ghost use Rattle.pair.specs.Rising.{any};
+ghost use Rattle.batch.specs.Batch.{updates, any_update, ill_formed, arrivals, ill_numbered, falls, batch_number};
+ghost use Rattle.batch.specs.code.Records.{updates_of};
 ghost use Rattle.batch.specs.code.Search.{update_of, next_addition, behind, latest_with, latest_of, none, passing, renewed, removal, annulled, decided};
 ghost use Rattle.batch.specs.code.Untouched.{untouched, quiet_before};
 
@@ -23,50 +23,57 @@ pub mod rounds;
 // The most records of a batch.
 pub const RECORDS_MOST: usize = 4_096;
 
-// Writes the arrival numbers of the records into a memory that has room for them.
-fn fill_arrivals(records: &[RecordWords], numbers: &mut [u32])
+// Writes the arrival numbers of the records into a memory that has room for them; says whether one is 0.
+fn fill_arrivals(records: &[RecordWords], numbers: &mut [u32]) -> bool
     requires { length records.now ≤ length numbers.old }
-    ensures { numbers.new ≡ sets numbers.old 0 (arrivals (updates_of records.now)) }
+    ensures value { result ≡ any (eqb 0) (arrivals (updates_of records.now)) }
+    ensures numbers_after { numbers.new ≡ sets numbers.old 0 (arrivals (updates_of records.now)) }
 {
+    let mut unnumbered = false;
     for (n, words) in records.iter().enumerate() {
-        numbers[n] = Record::of(words).arrival;
+        let arrival = Record::of(words).arrival;
+        unnumbered = unnumbered | (0 == arrival);
+        numbers[n] = arrival;
     }
+    unnumbered
 }
 
-// Whether a record is ill formed.
-fn any_ill_formed(records: &[RecordWords]) -> bool
-    ensures { result ≡ list_any (λ ws. ill_formed (update_of (record_of ws))) records.now }
-{
-    records
-        .iter()
-        .any(|words| Record::of(words).is_ill_formed())
-}
-
-// Whether an arrival number is 0.
-fn any_unnumbered(records: &[RecordWords]) -> bool
-    ensures { result ≡ list_any (λ ws. eqb (record_of ws).arrival 0) records.now }
-{
-    records.iter().any(|words| Record::of(words).arrival == 0)
-}
-
-// Whether an arrival number is 0 or used twice.
+// Whether an arrival number is 0 or used twice. Its tables are not a part of what a refusal before it takes of the stack.
+#[inline(never)]
 fn ill_numbered(records: &[RecordWords]) -> bool
     requires { length records.now ≤ 4096 }
     ensures { result ≡ ill_numbered (updates_of records.now) }
 {
-    if any_unnumbered(records) {
+    let mut numbers = [0u32; RECORDS_MOST];
+    if fill_arrivals(records, &mut numbers) {
         return true;
     }
-    let mut numbers = [0u32; RECORDS_MOST];
-    fill_arrivals(records, &mut numbers);
     repeat::repeats(&numbers, records.len())
 }
 
-// Whether a record starts before the one before it.
-fn falls(records: &[RecordWords]) -> bool
-    ensures { result ≡ falls 0 (updates_of records.now) }
+// What a walk over the records tells: whether one is ill formed, and whether one starts before the one before it.
+#[derive(Clone, Copy)]
+struct Seen {
+    ill_formed: bool,
+    falls: bool,
+}
+
+// Looks at each record once. It goes over all of them, so that it is vectorised.
+fn survey(records: &[RecordWords]) -> Seen
+    ensures formed { result.ill_formed ≡ any_update ill_formed (updates_of records.now) }
+    ensures ordered { result.falls ≡ falls 0 (updates_of records.now) }
 {
-    !records.is_sorted_by_key(|words| Record::of(words).first_rank())
+    let mut ill_formed = false;
+    let mut falls = false;
+    let mut before: u64 = 0;
+    for words in records {
+        let u = Record::of(words);
+        let rank = u.first_rank();
+        ill_formed = ill_formed | u.is_ill_formed();
+        falls = falls | (rank < before);
+        before = rank;
+    }
+    Seen { ill_formed, falls }
 }
 
 // Checks that a batch is in order.
@@ -77,13 +84,14 @@ pub fn check(batch: &[u32]) -> Result<(), Refusal>
     if batch.len() % RECORD_WORDS != 0 || RECORDS_MOST < records.len() {
         return Err(Refusal::IllFormed);
     }
-    if any_ill_formed(records) {
+    let seen = survey(records);
+    if seen.ill_formed {
         return Err(Refusal::IllFormed);
     }
     if ill_numbered(records) {
         return Err(Refusal::IllNumbered);
     }
-    if falls(records) {
+    if seen.falls {
         return Err(Refusal::OrderFalls);
     }
     Ok(())
@@ -196,7 +204,8 @@ impl Latest {
         }
     }
 
-    // The latest of some records that is a removal of a term and reaches to a pair.
+    // The latest of some records that is a removal of a term and reaches to a pair. It is called seldom, and kept out of the way of decisions.
+    #[cold]
     fn of(records: &[RecordWords], rank: u64) -> Latest
         ensures { result ≡ latest_of rank none (updates_of records.now) }
     {

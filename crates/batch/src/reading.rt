@@ -87,18 +87,30 @@ impl Record {
         last.rank()
     }
 
-    // Whether it is ill formed.
+    // Whether it is ill formed. Without branches, so that a walk over records is vectorised.
     #[tactic(auto, unfolding(crate::specs::Batch::ill_formed))]
     pub(crate) fn is_ill_formed(self) -> bool
         ensures { result ≡ ill_formed (update_of self) }
     {
-        let fits_kind = match self.kind() {
-            Some(Kind::Adds) => self.term != 0 && self.from == self.to,
-            Some(Kind::Removes) => self.term != 0,
-            Some(Kind::Annuls) => self.term == 0,
-            None => false,
-        };
-        !fits_kind || self.from == 0 || self.to == 0
+        ((self.term == 0) & !self.is_round())
+            | ((self.term != 0) & !self.is_addition() & !self.is_removal())
+            | (self.from == 0)
+            | (self.to == 0)
+            | (self.is_addition() & (self.from != self.to))
+    }
+
+    // Whether it adds a pair.
+    pub(crate) fn is_addition(self) -> bool
+        ensures { result ≡ eqb self.kind 1 }
+    {
+        self.kind() == Some(Kind::Adds)
+    }
+
+    // Whether it removes positions of its term.
+    pub(crate) fn is_removal(self) -> bool
+        ensures { result ≡ eqb self.kind 2 }
+    {
+        self.kind() == Some(Kind::Removes)
     }
 
     // Whether it is a round to be annulled.

@@ -145,6 +145,7 @@ impl<'a> Rounds<'a> {
         if begun == self.records.len() {
             return to;
         }
-        u64::from(to).min(self.start(begun).saturating_sub(1)) as u32
+        let start = self.start(begun);
+        u64::from(to).min(start.saturating_sub(1)) as u32
     }
 }

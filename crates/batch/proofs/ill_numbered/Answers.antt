@@ -1,14 +1,14 @@
 -- `batch::ill_numbered` meets its contract.
-use mathlib.Core.Path.{sym, ◌∙◌}
 use Rattle.batch.specs.Batch.{ill_numbered}
-use Rattle.batch.proofs.Numbering.{any_zero, numbers_whole}
+use Rattle.batch.proofs.Numbering.{numbers_whole}
 use Rattle.batch.proofs.ill_numbered.Goals as goal
 
-pub returns-then-any_unnumbered : goal.returns-then-any_unnumbered
+pub returns-then-fill_arrivals : goal.returns-then-fill_arrivals
 unfolding ill_numbered
-returns-then-any_unnumbered c = rw (← any_zero c.args.records.now, sym c.any_unnumbered.ensures ∙ c.if-any_unnumbered.true)
+returns-then-fill_arrivals c = rw (← c.fill_arrivals.ensures.value, c.if-fill_arrivals.true)
 
 pub returns : goal.returns
 unfolding ill_numbered
 returns c =
-    rw (← any_zero c.args.records.now, sym c.any_unnumbered.ensures ∙ c.if-any_unnumbered.false, c.repeats.ensures, c.fill_arrivals.ensures, numbers_whole _ c.requires)
+    let f = c.fill_arrivals.ensures in
+    rw (← f.value, c.if-fill_arrivals.false, c.repeats.ensures, f.numbers_after, numbers_whole _ c.requires)

@@ -17,5 +17,5 @@ returns-then-begun-self c =
 pub returns : goal.returns
 returns c =
     let b = c.begun-begun.ensures in
-    rw (c.min.ensures, c.saturating_sub.ensures, c.start.ensures, c.from.ensures)
+    rw (c.min.ensures, c.saturating_sub.ensures, c.start-start.ensures, c.from.ensures)
     (before_next _ _ _ _ _ _ _ b.value (sym (reached_of _ _ _ (omega arith) c.first.ensures.reaches) ∙ (sym c.reach_to.ensures ∙ c.if-reach_to.false)) (omega arith))
