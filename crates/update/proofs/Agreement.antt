@@ -71,6 +71,14 @@ ahead x g w l h v m few blocks writes limit = go (eqb w g) refl
         })
 
 -- a forecast is refused where the card is not sound or the batch not in order, and else it is by what remains
+pub forecast_judged : (c b : List ℕ) → (judged c ≡ 0 → ⊥) → forecast c b ≡ Refused (judged c)
+unfolding forecast forecast_number first_of
+forecast_judged c b n = let e : eqb (judged c) 0 ≡ false = ne_eqb (judged c) 0 n in rw (e, e)
+
+pub forecast_unordered : (c b : List ℕ) → judged c ≡ 0 → (batch_number b ≡ 0 → ⊥) → forecast c b ≡ Refused (batch_number b)
+unfolding forecast forecast_number first_of
+forecast_unordered c b j n = let e : eqb (batch_number b) 0 ≡ false = ne_eqb (batch_number b) 0 n in rw (j, e, e)
+
 pub forecast_returned :
     (c b : List ℕ) (a : Result Outlook Refusal) (r : Refusal) → IsErrAnd a (λ x. x ≡ r) → number r ≡ forecast_number c b → forecast_of a ≡ forecast c b
 unfolding forecast

@@ -76,6 +76,14 @@ step_sound c b j e = rw (j, e) (go (crowded c (remains c b)))
     go false = refl
 
 -- Where the card is not sound, or the batch not in order, it is refused with that number.
+pub step_judged : (c b : List ℕ) → (judged c ≡ 0 → ⊥) → step c b ≡ refused c (judged c)
+unfolding step step_number first_of
+step_judged c b n = let e : eqb (judged c) 0 ≡ false = ne_eqb (judged c) 0 n in rw (e, e)
+
+pub step_unordered : (c b : List ℕ) → judged c ≡ 0 → (batch_number b ≡ 0 → ⊥) → step c b ≡ refused c (batch_number b)
+unfolding step step_number first_of
+step_unordered c b j n = let e : eqb (batch_number b) 0 ≡ false = ne_eqb (batch_number b) 0 n in rw (j, e, e)
+
 pub number_card : (c b : List ℕ) (r : Refusal) → number r ≡ judged c → number r ≡ forecast_number c b
 unfolding forecast_number first_of
 number_card c b r e = rw (← e, ne_eqb (number r) 0 (λ z. omega (arith, number_positive r)))

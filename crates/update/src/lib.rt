@@ -3,6 +3,7 @@
 #![tactic(auto)]
 
 ghost use Rattle.std.specs.Prelude.{◌≡◌, ◌+◌, ◌≤◌, length, replicate, OnOk};
+ghost use Rattle.std.proofs.lemmas.List.Edits.{sets};
 ghost use Rattle.refusal.specs.Refusal.{number_of};
 ghost use Rattle.pair.specs.Rank.{Proper};
 ghost use Rattle.pair.specs.Rising.{Each};
@@ -188,6 +189,18 @@ fn fill_due(card: &[u32], batch: &[u32], words: &mut [u32]) -> Due
     due::fill(Pass::of(card, batch, &reaches[..count]), words)
 }
 
+// Writes words over those of the card from one on. The library's copy would call memcpy of the C library, and so would this loop as a part
+// of a step, where the words are its own.
+#[inline(never)]
+fn write(card: &mut [u32], at: usize, words: &[u32])
+    requires { at + length words.now ≤ length card.old }
+    ensures { card.new ≡ sets card.old at words.now }
+{
+    for i in 0..words.len() {
+        card[at + i] = words[i];
+    }
+}
+
 // Refuses a card that is not sound, and a batch that is not in order.
 fn check(card: &[u32], batch: &[u32]) -> Result<(), Refusal>
     ensures number { number_of result ≡ forecast_number card.now batch.now }
@@ -209,6 +222,6 @@ pub fn step(card: &mut [u32], batch: &[u32]) -> Result<Written, Refusal>
     let words = &mut buffer[..k.size as usize];
     let due = fill_due(card, batch, words);
     let plan = plan(card, k, words, due)?;
-    card[plan.start..plan.start + plan.count].copy_from_slice(&words[..plan.count]);
+    write(card, plan.start, &words[..plan.count]);
     Ok(plan.written)
 }

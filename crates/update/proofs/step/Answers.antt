@@ -8,7 +8,7 @@ use Rattle.card.proofs.Facts.{facts}
 use Rattle.card.proofs.Ordered.{ordered_sound}
 use Rattle.update.specs.Step.{Step, refused, step}
 use Rattle.update.specs.code.Plan.{PlanOf}
-use Rattle.update.proofs.Plans.{part_written, plan_step}
+use Rattle.update.proofs.Plans.{plan_step}
 use Rattle.update.proofs.Steps.{step_checked, step_writes, answers_returned, size_of}
 use Rattle.update.proofs.Writes.{length_due_block_law}
 use Rattle.update.proofs.step.Goals as goal
@@ -59,8 +59,11 @@ returns-in_err-plan-clause-card c =
 pub returns-clause-answer : goal.returns-clause-answer
 returns-clause-answer c = (rw c.in_ok-plan.was at (planned (goal.at.returns-clause-answer c).After-plan)).answer
 
+pub write-requires : goal.write-requires
+write-requires c =
+    rw (length-take-le _ _ c.in_ok-plan.ensures.few) (rw c.in_ok-plan.was at (planned (goal.at.write-requires c).After-plan)).inside
+
 pub returns-clause-card : goal.returns-clause-card
 returns-clause-card c =
     let s = rw c.in_ok-plan.was at (planned (goal.at.returns-clause-card c).After-plan) in
-    part_written _ _ _ _ (ap length c.copy_from_slice.ensures.after ∙ length-take-le _ _ c.in_ok-plan.ensures.few) s.inside
-    ∙ rw (c.copy_from_slice.ensures.after, s.start, s.words) (sym (step_writes _ _))
+    c.write.ensures ∙ rw (s.start, s.words) (sym (step_writes _ _))
