@@ -28,9 +28,8 @@ fn read_input<R: Read>(input: &mut R, buffer: &mut [u8]) -> io::Result<usize>
 fn main(rt: HostRuntime) {
     let mut buffer = [0u8; SETTLING_BYTES];
     if let Ok(count) = read_input(&mut rt.stdin(), &mut buffer) {
-        let outcome = scores::outcome_of(&buffer[..count]);
         let mut line = [0u8; LINE_BYTES];
-        let length = scores::put_outcome(&mut line, outcome.map_err(u32::from));
+        let length = scores::put_outcome_of(&mut line, &buffer[..count]);
         let _written = io::writer(&rt).write_all(&line[..length]);
     }
 }

@@ -71,3 +71,14 @@ pub fn put_outcome(line: &mut [u8; LINE_BYTES], outcome: Result<u32, u32>) -> us
         Err(number) => put_line(line, b'N', number),
     }
 }
+
+// Writes the line that is printed of a file, and answers how many bytes it has.
+pub fn put_outcome_of(line: &mut [u8; LINE_BYTES], bytes: &[u8]) -> usize
+    ensures value { (result ≡ length (printed (outcome bytes.now))) × (line.new ≡ sets line.old 0 (printed (outcome bytes.now))) }
+    ensures upper_bound { result ≤ 13 }
+{
+    match outcome_of(bytes) {
+        Ok(steps) => put_outcome(line, Ok(steps)),
+        Err(refusal) => put_outcome(line, Err(u32::from(refusal))),
+    }
+}
