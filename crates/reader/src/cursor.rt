@@ -68,7 +68,7 @@ pub fn step_at(card: &[u32], cursor: &mut Cursor) -> Option<u32>
         *cursor = next;
     }
     let Some(&position) = card.get(cursor.at) else {
-        return None;
+        return None; // a cursor of another card
     };
     cursor.at += 1;
     cursor.left -= 1;

@@ -19,7 +19,7 @@ pub mod cursor; // a place in the card that moves on by one posting at a time
 
 // It carries the number of its question, 0 where that is not refused, and yields the question's postings one after another, then the end for
 // ever. Only this crate makes one.
-#[derive(Drop)]
+#[derive(Clone, Copy)]
 pub struct PostingReader<'a> {
     pub number: u32,
     pub(crate) card: &'a [u32],
@@ -28,7 +28,7 @@ pub struct PostingReader<'a> {
 }
 
 // A reader, and how many postings it has before it.
-#[derive(Drop)]
+#[derive(Clone, Copy)]
 pub struct Counted<'a> {
     pub count: usize,
     pub reader: PostingReader<'a>,
