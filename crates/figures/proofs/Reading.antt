@@ -79,9 +79,9 @@ unfolding with_figure
 figured v b {w} {o = None} e k h = rw (e, le-ltb (10 * v + (b - figure 0)) word_limit (omega (arith, k, h)))
 figured v b {w} {o = Some x} e k h = rw (e, lt-ltb (10 * v + (b - figure 0)) word_limit (omega (arith, k, h.0))) (ap Some (h.1 ∙ k))
 
-pub figured_large : (v b : ℕ) → word_limit ≤ 10 * v → with_figure v b ≡ None
+pub figured_large : (v b : ℕ) → word_limit ≤ 10 * v + (b - figure 0) → with_figure v b ≡ None
 unfolding with_figure
-figured_large v b h = rw (le-ltb (10 * v + (b - figure 0)) word_limit (omega (arith, h)), and-false (is_figure b))
+figured_large v b h = rw (le-ltb (10 * v + (b - figure 0)) word_limit h, and-false (is_figure b))
 
 pub figured_other : (v b : ℕ) → is_figure b ≡ false → with_figure v b ≡ None
 unfolding with_figure

@@ -294,14 +294,19 @@ pub record Taking (c : List ℕ) (t z : ℕ) (s now : Stretch) (n : ℕ) : Type 
 unfoldable pub taking_start : {c : List ℕ} {t z : ℕ} {s : Stretch} → Ready c s → Taking c t z s s 0
 taking_start r = record { ready = r; done = []; all = refl; count = refl }
 
-module _ {c : List ℕ} {t z : ℕ} {s now rest : Stretch} {p n : ℕ} {x : Part} (g : Taking c t z s now n) (h : FirstPlace c now p rest) (y : PlacePart c p t rest.after z x) where
-  first_part : ahead_of c t z now ≡ take x.len (drop x.start c) ++ ahead_of c t z rest
-  first_part =
-      let live : formed (place c p) ≡ true = (rw (h.places g.ready) at g.ready.live).0 in
-      rw (← h.after, h.places g.ready, y.positions live) (postings_cons c (is_wanted t rest.after z) p (places_of c rest))
+-- The first block of a stretch is read: what is ahead is its part and what is ahead behind it.
+module _ {c : List ℕ} {t z : ℕ} {now rest : Stretch} {p : ℕ} {x : Part} (r : Ready c now) (h : FirstPlace c now p rest) (y : PlacePart c p t rest.after z x) where
+  pub ready_behind : Ready c rest
+  ready_behind = h.ready r
 
+  pub ahead_part : ahead_of c t z now ≡ take x.len (drop x.start c) ++ ahead_of c t z rest
+  ahead_part =
+      let live : formed (place c p) ≡ true = (rw (h.places r) at r.live).0 in
+      rw (← h.after, h.places r, y.positions live) (postings_cons c (is_wanted t rest.after z) p (places_of c rest))
+
+module _ {c : List ℕ} {t z : ℕ} {s now rest : Stretch} {p n : ℕ} {x : Part} (g : Taking c t z s now n) (h : FirstPlace c now p rest) (y : PlacePart c p t rest.after z x) where
   pub all_part : ahead_of c t z s ≡ (g.done ++ take x.len (drop x.start c)) ++ ahead_of c t z rest
-  all_part = g.all ∙ ap (λ l. g.done ++ l) first_part ∙ sym (append_assoc g.done (take x.len (drop x.start c)) (ahead_of c t z rest))
+  all_part = g.all ∙ ap (λ l. g.done ++ l) (ahead_part g.ready h y) ∙ sym (append_assoc g.done (take x.len (drop x.start c)) (ahead_of c t z rest))
 
   pub count_part : length (g.done ++ take x.len (drop x.start c)) ≡ n + x.len
   count_part = length-append g.done (take x.len (drop x.start c)) ∙ rw (← g.count, length_part c x.start x.len y.inside)
@@ -309,7 +314,7 @@ module _ {c : List ℕ} {t z : ℕ} {s now rest : Stretch} {p n : ℕ} {x : Part
   -- a block more
   unfoldable pub taking_turn : Taking c t z s rest (n + x.len)
   taking_turn =
-      record { ready = h.ready g.ready; done = g.done ++ take x.len (drop x.start c); all = all_part; count = sym count_part }
+      record { ready = ready_behind g.ready h y; done = g.done ++ take x.len (drop x.start c); all = all_part; count = sym count_part }
 
   pub taking_most : n + x.len ≤ length (ahead_of c t z s)
   taking_most =

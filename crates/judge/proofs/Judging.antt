@@ -139,22 +139,30 @@ is_some_cond : (s : Bool) (x : ℕ) → is_some (cond s (Some x) None) ≡ s
 is_some_cond true x = refl
 is_some_cond false x = refl
 
--- the old segment i ∷ is: its first block counts where it is live and reaches above the boundary
+-- a segment i ∷ is whose first block is to reach above k: that block counts where it is live and does
+pub first_reached :
+    (c : List ℕ) → Words c → (k i : ℕ) (is : List ℕ) →
+    (segment_sound c 0 (i ∷ is) && first_reaches c k (i ∷ is))
+    ≡ ((live_block c i && ltb k (last 0 (pairs (place c i)))) && segment_sound c (last 0 (pairs (place c i))) is)
+unfolding first_reaches
+first_reached c w k i is = rw (segment_first c w 0 i is) (go (live_block c i) refl)
+  where
+    go :
+        (l : Bool) → live_block c i ≡ l →
+        (((l && ltb 0 (get_or (pairs (place c i)) 0 0)) && segment_sound c (last 0 (pairs (place c i))) is) && any (ltb k) (pairs (place c i)))
+        ≡ ((l && ltb k (last 0 (pairs (place c i)))) && segment_sound c (last 0 (pairs (place c i))) is)
+    go false e = refl
+    go true e =
+        let f = and_left (formed (place c i)) (eqb (first_pair c i) (get_or (pairs (place c i)) 0 0)) e in
+        let r = formed_rising (place c i) (place_words c i w) f in
+        let z : ltb 0 (get_or (pairs (place c i)) 0 0) ≡ true = sym (rising_some (pairs (place c i)) 0 (formed_some (place c i) f) r) ∙ r in
+        rw (z, any_last (pairs (place c i)) 0 k r zero-le) (and_comm (segment_sound c (last 0 (pairs (place c i))) is) _)
+
+-- the old segment i ∷ is: its first block is to reach above the boundary
 module _ (c : List ℕ) (w : Words c) (i : ℕ) (is : List ℕ) (p : old_places c ≡ i ∷ is) where
   first_counts : old_sound c ≡ ((live_block c i && ltb (boundary c) (last 0 (pairs (place c i)))) && segment_sound c (last 0 (pairs (place c i))) is)
-  unfolding old_sound first_reaches
-  first_counts = rw (p, segment_first c w 0 i is) (go (live_block c i) refl)
-    where
-      go :
-          (l : Bool) → live_block c i ≡ l →
-          (((l && ltb 0 (get_or (pairs (place c i)) 0 0)) && segment_sound c (last 0 (pairs (place c i))) is) && any (ltb (boundary c)) (pairs (place c i)))
-          ≡ ((l && ltb (boundary c) (last 0 (pairs (place c i)))) && segment_sound c (last 0 (pairs (place c i))) is)
-      go false e = refl
-      go true e =
-          let f = and_left (formed (place c i)) (eqb (first_pair c i) (get_or (pairs (place c i)) 0 0)) e in
-          let r = formed_rising (place c i) (place_words c i w) f in
-          let z : ltb 0 (get_or (pairs (place c i)) 0 0) ≡ true = sym (rising_some (pairs (place c i)) 0 (formed_some (place c i) f) r) ∙ r in
-          rw (z, any_last (pairs (place c i)) 0 (boundary c) r zero-le) (and_comm (segment_sound c (last 0 (pairs (place c i))) is) _)
+  unfolding old_sound
+  first_counts = rw p (first_reached c w (boundary c) i is)
 
   pub old_dead : None ≡ block_scanned c i → false ≡ old_sound c
   old_dead f = rw (first_counts, no_block c i f)
@@ -189,9 +197,13 @@ old_places_law c h = go (length_of_old c)
     go (suc l) n = let f : suc l - 1 ≡ l = omega arith in rw (f, mod-eq_of_lt h)
 
 -- of a card without one nothing is asked
+pub none_reached : (c : List ℕ) (k : ℕ) → length_of_old c ≡ 0 → true ≡ (segment_sound c 0 (old_places c) && first_reaches c k (old_places c))
+unfolding around blocks_sound pairs_at rising_from first_reaches
+none_reached c k e = rw e
+
 pub old_none : (c : List ℕ) → length_of_old c ≡ 0 → true ≡ old_sound c
-unfolding old_sound around blocks_sound pairs_at rising_from first_reaches
-old_none c e = rw e
+unfolding old_sound
+old_none c e = none_reached c (boundary c) e
 
 -- for the tactic at the functions: the walk over a segment, and the two segments
 pub ruleset walk = (walking_start, walking_none, walking_low, walking_turn, walking_end, place_on_law)

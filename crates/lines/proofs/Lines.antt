@@ -5,10 +5,10 @@ use mathlib.Core.Path.{◌≡◌, refl, sym, ap, ◌∙◌}
 use mathlib.Core.Logic.{◌≢◌, ◌⊎◌, inl, inr, ⊎_elim}
 use mathlib.Core.Bool.{Bool, true, false, cond, ◌&&◌, and-false}
 use mathlib.Core.List.{List, [], ◌∷◌}
-use borrow.Author.Tests.{leb-true, ltb-true, ltb-false}
+use borrow.Author.Tests.{leb-true, ltb-true, ltb-false, eqb-true, eqb-false, ne_eqb}
 use lib.ListN.{length, take, drop, get_or}
-use lib.Seq.{take_all}
-use lib.Dec.{ltb, leb}
+use lib.Seq.{take_all, length-take-le}
+use lib.Dec.{ltb, leb, eqb}
 use Rattle.pair.specs.Tests.{same}
 use Rattle.pair.proofs.Tests.{and_left, and_right}
 use Rattle.figures.specs.Figures.{is_figure, all_figures, worth, is_number}
@@ -120,3 +120,56 @@ line_letter c (x ∷ y ∷ l) h t e n =
     ap record_of
     (fields_next (x ∷ y ∷ l) (omega (arith, b))
     ∙ rw (b, s, e))
+
+-- a field of another length than 1 is no letter
+same_one : (k : List ℕ) (c : ℕ) → length k ≢ 1 → same k (c ∷ []) ≡ false
+unfolding same
+same_one [] c h = refl
+same_one (x ∷ []) c h = absurd (h refl)
+same_one (x ∷ y ∷ k) c h = and-false (eqb x c)
+
+-- where the first tab is not behind one byte, the line has another form
+pub no_letter : (l : List ℕ) → before tab l ≢ 1 → line_record l ≡ []
+unfolding line_record
+no_letter l h = ⊎_elim (λ e. rw e (one_field l)) (λ t. rw (fields_next l t) (other (take (before tab l) l) (fields (drop (suc (before tab l)) l)) (λ e. h (sym (length-take-le (before tab l) l (before_most tab l)) ∙ e)))) (some_field l)
+  where
+    other : (k : List ℕ) (fs : List (List ℕ)) → length k ≢ 1 → record_of (k ∷ fs) ≡ []
+    other k fs n = other_letter k fs (same_one k letter_a n) (same_one k letter_r n)
+
+-- a line of fewer than two bytes
+pub line_short : (l : List ℕ) → length l < 2 → [] ≡ line_record l
+unfolding line_record
+line_short l h = go (eqb (before tab l) 1) refl
+  where
+    go : (t : Bool) → eqb (before tab l) 1 ≡ t → [] ≡ record_of (fields l)
+    go true e = rw (fields_one l (omega (arith, h, eqb-true (before tab l) 1 e, before_most tab l))) (sym (one_field l))
+    go false e = sym (no_letter l (eqb-false (before tab l) 1 e))
+
+-- a line whose second byte is no tab
+pub line_no_tab : (l : List ℕ) → 2 ≤ length l → get_or l 1 0 ≢ tab → [] ≡ line_record l
+line_no_tab [] h n = absurd (omega arith)
+line_no_tab (x ∷ []) h n = absurd (omega arith)
+line_no_tab (x ∷ y ∷ l) h n = sym (no_letter (x ∷ y ∷ l) (λ e. go (eqb x tab) refl e))
+  where
+    go : (t : Bool) → eqb x tab ≡ t → before tab (x ∷ y ∷ l) ≡ 1 → ⊥
+    go true k e = omega (arith, e, before_mark tab x (y ∷ l) (eqb-true x tab k))
+    go false k e = omega (arith, e, before_pass tab x (y ∷ l) (eqb-false x tab k), before_pass tab y l n)
+
+letter_not : (x c : ℕ) → x ≢ c → same (x ∷ []) (c ∷ []) ≡ false
+unfolding same
+letter_not x c n = rw (ne_eqb x c n)
+
+first_tab : (l : List ℕ) → 2 ≤ length l → get_or l 0 0 ≡ tab → before tab l ≡ 1 → ⊥
+first_tab [] h k e = omega arith
+first_tab (x ∷ l) h k e = omega (arith, e, before_mark tab x l k)
+
+-- a line of another letter
+pub line_other : (l : List ℕ) → 2 ≤ length l → get_or l 1 0 ≡ tab → get_or l 0 0 ≢ letter_a → get_or l 0 0 ≢ letter_r → [] ≡ line_record l
+line_other l h t a r = go (eqb (get_or l 0 0) tab) refl
+  where
+    go : (s : Bool) → eqb (get_or l 0 0) tab ≡ s → [] ≡ line_record l
+    go true k = sym (no_letter l (λ e. first_tab l h (eqb-true (get_or l 0 0) tab k) e))
+    go false k =
+        sym
+        (line_letter (get_or l 0 0) l h t refl (eqb-false (get_or l 0 0) tab k)
+        ∙ other_letter (get_or l 0 0 ∷ []) (fields (take (length l - 2) (drop 2 l))) (letter_not (get_or l 0 0) letter_a a) (letter_not (get_or l 0 0) letter_r r))

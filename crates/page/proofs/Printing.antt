@@ -1,18 +1,19 @@
 -- What a page answers, refused or not.
-use Prim.Native.Nat.{ℕ, zero, suc, ◌≤◌}
+use Prim.Native.Nat.{ℕ, zero, suc, ◌≤◌, ◌<◌}
 use native.Mathlib.Omega.{arith}
 use mathlib.Core.Path.{◌≡◌, refl, sym}
-use mathlib.Core.Bool.{Bool, true, false}
+use mathlib.Core.Bool.{Bool, true, false, cond}
 use mathlib.Core.List.{List, [], ◌∷◌, map}
 use borrow.Author.Tests.{eq-eqb, eqb-true, ltb-false}
-use lib.ListN.{length}
+use lib.ListN.{length, get_or}
 use lib.Seq.{sets}
 use lib.Dec.{eqb}
-use Rattle.pair.specs.Rank.{rank, position, Words}
+use Rattle.pair.specs.Rank.{rank, position, word_limit, Words}
 use Rattle.pair.specs.Rising.{within}
 use Rattle.pair.proofs.FirstOf.{passed, handed_on}
 use Rattle.card.specs.Layout.{live}
 use Rattle.found.specs.Found.{found, question_number}
+use Rattle.reader.specs.Reader.{all_yielded}
 use Rattle.page.specs.Page.{line_count, page, page_number, printed}
 
 -- what is found are words
@@ -25,6 +26,15 @@ positions_words (x ∷ xs) (suc i) = positions_words xs i
 pub found_words : (c : List ℕ) (t a z : ℕ) → Words (found c t a z)
 unfolding found
 found_words c t a z = positions_words (within (rank t a) (rank t z) (live c))
+
+-- all that is yielded are words
+pub yielded_words : (c : List ℕ) (t a z : ℕ) → Words (all_yielded c t a z)
+unfolding all_yielded Words
+yielded_words c t a z = go (eqb (question_number c t a z) 0)
+  where
+    go : (s : Bool) (i : ℕ) → get_or (cond s (found c t a z) []) i 0 < word_limit
+    go true i = found_words c t a z i
+    go false i = omega arith
 
 module _ (c : List ℕ) (t a z : ℕ) (memory : List ℕ) where
   pub printed_done :
