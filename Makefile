@@ -103,7 +103,7 @@ fmt:
 clean:
 	rm -rf target tests/target tests/reach/target crates/*/out
 
-# The library of C functions, proved before it is written: over what rt ci proved of these files, or else by rt lib.
+# The library of C functions, proved before it is written, by rt lib.
 $(LIBRARY): $(SOURCES)
 	.ci/library
 

@@ -121,6 +121,8 @@ function read_implementation(text,    head) {
     gsub(/[ \001]+$/, "", head)
     gsub(hint " ", "", text)
     if (text ~ /#|--|\{-/) fault(file ": an attribute or a comment inside: " head)
+    if (text !~ /ghost (from|try_from|next)_gives = /) fault(file ": an impl without a promise: " head)
+    if (text ~ /ghost can_/) fault(file ": an impl with a requires: " head)
     keep(head, text)
     functions++
 }
